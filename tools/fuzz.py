@@ -21,11 +21,11 @@ REFUSALS = {
        "16 MacroLoop at,17 MacroArguments at,18 MacroLimit at,20 LeftOut at,21 Syntax at,22 TooDeep at,30 NotConstant at,"
        "31 UnknownConstant at,32 NoTop,33 DuplicateModule at,34 UnknownModule at,35 UnknownName at,36 DuplicateName at,37 BadRange at,38 PortCount at,"
        "39 UnknownPort at,40 InstanceDepth at,41 TooManyInstances at,42 GenerateTurns at,43 WrongKind at,44 TooManyBits at,45 TooManyProcesses at,"
-       "50 TooWide at,51 Division at,52 TooLarge size,53 Latch process bit at,54 MixedAssign at,55 Sensitivity process signal at,"
+       "46 LoopTurns at,47 LoopVariable at,48 FunctionRule at,49 Recursion at,50 TooWide at,51 Division at,52 TooLarge size,53 Latch process bit at,54 MixedAssign at,55 Sensitivity process signal at,56 FunctionLatch at,57 InitialForm process at,58 Delay at,"
        "60 TwoDrivers bit first second at,61 NoClock,62 ClockRead process at,63 NotTheClock process at,64 Cycle processes at,65 TimeZero process at,"
        "66 ResetForm process at,67 Race process bit at",
     4: "70 BadHeader lane,71 BadVector lane line,72 FirstUnknown lane,73 NoVector lane,74 TooManyVectors lane,75 StimulusTooLong lane,"
-       "76 LineTooLong lane line,77 UnknownReset lane line,78 UnknownSelect lane line"}
+       "76 LineTooLong lane line,77 UnknownReset lane line,78 UnknownSelect lane line,79 NoExpectation lane"}
 FORMS = {" ".join(form.split()[:2]): (status, form.split()[2:]) for status, forms in REFUSALS.items() for form in forms.split(",")}
 
 

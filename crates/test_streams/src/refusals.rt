@@ -23,7 +23,7 @@ const BARE_LINES: [(BareName, &str); 4] = [
 ];
 
 /// Refusals at a place, and their lines.
-const AT_LINES: [(AtName, u32, &str); 35] = [
+const AT_LINES: [(AtName, u32, &str); 36] = [
     (NoToken, 0, "refused 10 NoToken at=0\n"),
     (OpenComment, 7, "refused 11 OpenComment at=7\n"),
     (BadLiteral, 22, "refused 12 BadLiteral at=22\n"),
@@ -71,6 +71,7 @@ const AT_LINES: [(AtName, u32, &str); 35] = [
     (Division, 200, "refused 51 Division at=200\n"),
     (MixedAssign, 211, "refused 54 MixedAssign at=211\n"),
     (FunctionLatch, 223, "refused 56 FunctionLatch at=223\n"),
+    (Delay, 68, "refused 58 Delay at=68\n"),
 ];
 
 /// Refusals of a process at a place, and their lines.

@@ -1,5 +1,5 @@
 -- What the answers to one text have to do with one another.
-use Rattle.std.proofs.Common.{◌≡◌, ℕ, true, List, refl, sym, ap, ◌∙◌, subst, Option, Some, None}
+use Rattle.std.proofs.Common.{◌≡◌, ◌<◌, ℕ, true, nat_lt, List, refl, sym, ap, ◌∙◌, subst, arith, Option, Some, None}
 use Rattle.std.specs.Prelude.{Result, Ok, Err}
 use Rattle.vs_lexer.specs.declared.token.Token.{Token}
 use Rattle.vs_lexer.specs.Cuts.{cut_text}
@@ -16,7 +16,9 @@ use Rattle.vs_design.specs.Answers as D
 use Rattle.vs_design.specs.Answers.{DesignRefusal, OfWidth, OfBlock, OfDriver, OfClock, Cycle, OfRace, OfZero, IsRefusedBy, KeepsDrivers, is_as_written, IsJudged, AsWritten, AsLeft}
 use Rattle.vs_design.specs.Accepted.{IsAcceptedDesign}
 use Rattle.vs_design.specs.Dead.{without_dead}
-use Rattle.vs_accept.specs.Accepted.{IsRead, IsRefusedText, ByTokens, ByMacros, ByTree, ByElaboration, ByRule, OneDesign, NotBoth}
+use Rattle.vs_design.specs.Delays.{longest_delay}
+use Rattle.vs_design.specs.Refusals.{DelayRefusal, delay_refusal}
+use Rattle.vs_accept.specs.Accepted.{IsRead, IsRefusedText, ByTokens, ByMacros, ByTree, ByElaboration, ByRule, ByDelay, OneDesign, NotBoth}
 use Rattle.vs_accept.specs.Refused.{TreeFault, OutOfLanguage, OutOfGrammar, OutOfDepth, IsTreeFault}
 
 pub same_ok : {A E : Type 0} {a b : A} {x : Result A E} → x ≡ Ok a → x ≡ Ok b → a ≡ b
@@ -69,7 +71,7 @@ pub of_design : {x y : Result Design Fault} {d e : Design} → x ≡ y → x ≡
 of_design p q r = cc
 
 pub one_design : OneSource → OneDesign
-one_design one text top clocks d e a b =
+one_design one text top clocks half d e a b =
     a.left ∙ (ap without_dead (of_design (same_result one text top a.tokens b.tokens a.source b.source a.read b.read) a.elaborates b.elaborates) ∙ sym b.left)
 
 pub of_fault : {x y : Result Design Fault} {f g : Fault} → x ≡ y → x ≡ Err f → y ≡ Err g → f ≡ g
@@ -100,14 +102,23 @@ kept_not_broken d clocks (OfRace r) k early h = cc
 kept_not_broken d clocks (OfZero r) k early h = cc
 
 -- nor does any rule, where what is left is accepted
-accepted_not_judged : D.NotBoth → (w d e : Design) (clocks : List (List ℕ)) (x : DesignRefusal) → KeepsDrivers w → d ≡ without_dead w → IsAcceptedDesign d clocks → IsJudged w clocks e x → ⊥
+pub accepted_not_judged : D.NotBoth → (w d e : Design) (clocks : List (List ℕ)) (x : DesignRefusal) → KeepsDrivers w → d ≡ without_dead w → IsAcceptedDesign d clocks → IsJudged w clocks e x → ⊥
 accepted_not_judged judged w d e clocks x kept left a (AsWritten same early h) = kept_not_broken w clocks x kept early h
 accepted_not_judged judged w d e clocks x kept left a (AsLeft same also h) = judged d clocks a x (subst (λ (z : Design). IsRefusedBy z clocks x) (sym left) h)
 
-pub not_both : OneSource → SpelledHasNoFault → D.NotBoth → NotBoth
-not_both one none judged text top clocks d r a refused = go refused
+-- nor is a delay late, where all are below half the clock's period
+late_not : (half : ℕ) (d : Design) (x : DelayRefusal) → longest_delay d.processes < half → delay_refusal half d ≡ Some x → ⊥
+late_not half d x below late =
+    let none : delay_refusal half d ≡ None = rw (below_is (longest_delay d.processes) half below) refl in
+    none_some none late
   where
-    go : IsRefusedText text top clocks r → ⊥
+    below_is : (m n : ℕ) → m < n → nat_lt m n ≡ true
+    below_is m n h = grind arith
+
+pub not_both : OneSource → SpelledHasNoFault → D.NotBoth → NotBoth
+not_both one none judged text top clocks half d r a refused = go refused
+  where
+    go : IsRefusedText text top clocks half r → ⊥
     go (ByTokens e cut told) = ok_or_err a.read.reads.cut cut
     go (ByMacros written e cut faulty told) = read_or_fault text a.tokens written e a.read.reads cut faulty
     go (ByTree tokens x reads fault told) = no_fault_read none text a.tokens tokens a.source a.read reads x fault
@@ -115,3 +126,7 @@ not_both one none judged text top clocks d r a refused = go refused
     go (ByRule tokens source w e x read elaborates broken told) =
         accepted_not_judged judged a.written d e clocks x a.kept a.left a.accepted
         (subst (λ (z : Design). IsJudged z clocks e x) (of_design (same_result one text top tokens a.tokens source a.source read a.read) elaborates a.elaborates) broken)
+    go (ByDelay tokens source w x read elaborates kept accepted late told) =
+        late_not half d x a.in_time
+        (subst (λ (z : Design). delay_refusal half z ≡ Some x)
+        (ap without_dead (of_design (same_result one text top tokens a.tokens source a.source read a.read) elaborates a.elaborates) ∙ sym a.left) late)

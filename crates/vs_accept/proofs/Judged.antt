@@ -1,5 +1,5 @@
 -- What the rules say of a design together.
-use Rattle.std.proofs.Common.{◌≡◌, ◌≤◌, ℕ, max, true, List, None, length, refl, sym, ap, ◌∙◌, subst, arith, Option}
+use Rattle.std.proofs.Common.{◌≡◌, ◌<◌, ◌≤◌, ℕ, max, true, List, None, length, refl, sym, ap, ◌∙◌, subst, arith, Option}
 use Rattle.std.proofs.lemmas.Result.{err_from_is_err_and}
 use Rattle.vs_lexer.specs.declared.token.Token.{Token}
 use Rattle.vs_grammar.specs.Trees.{Source}
@@ -11,6 +11,7 @@ use Rattle.vs_design.specs.Accepted.{IsAcceptedDesign}
 use Rattle.vs_design.specs.Levels.{has_no_cycle}
 use Rattle.vs_design.specs.Answers.{KeepsDrivers, KeepsClock}
 use Rattle.vs_design.specs.Dead.{without_dead}
+use Rattle.vs_design.specs.Delays.{longest_delay}
 use Rattle.vs_design.specs.Laws.{AcceptedExactly}
 use Rattle.vs_design.specs.Refusals.{race_refusal, zero_refusal}
 use Rattle.vs_design.specs.Sizes.{size}
@@ -20,11 +21,8 @@ use Rattle.vs_refusal.specs.declared.refusal.Refusal.{Refusal}
 use Rattle.vs_accept.specs.declared.error.AcceptError.{AcceptError}
 use Rattle.vs_accept.specs.declared.error.AcceptError.TheVariants.{Refused, Memory}
 use Rattle.vs_accept.specs.Accepted.{most_bytes, IsRead, IsAcceptedText, told_size, IsRefusedText, OneDesign, NotBoth, OneRefusal}
-use Rattle.vs_accept.specs.Refused.{byte_of}
-use Rattle.vs_accept.specs.Answers.{IsRefusalOf, TellsLike, IsAnswered}
+use Rattle.vs_accept.specs.Answers.{IsRefusalOf, TellsLike}
 use Rattle.vs_accept.specs.Lent.{Acceptance, IsAcceptedAs}
-use Rattle.vs_accept.specs.Outputs.{top_outputs, HaveOutputs}
-use Rattle.vs_accept.proofs.Told.{by_rule}
 
 -- no rule refuses it
 pub accepted : AcceptedExactly → (d : Design) (clocks : List (List ℕ)) → IsLawfulDesign d → KeepsClock d clocks → has_no_cycle d ≡ true → race_refusal d ≡ None → zero_refusal d clocks ≡ None → IsAcceptedDesign d clocks
@@ -71,38 +69,36 @@ size_both d e n (Err x) is left told = tt
 
 -- ---- the answer to a text
 
--- what is judged of the design is said of the text
-pub accepted_text : (text : List ℕ) (top : Option (List ℕ)) (clocks : List (List ℕ)) (tokens : List Token) (source : Source) (d : Design) (answer : Result Acceptance AcceptError) → length text ≤ most_bytes → IsRead text tokens source
-    → elaborated_from source top ≡ Ok d → OnOk answer (KeepsDrivers d) → IfOk answer (λ (a : Acceptance). design_of a.flat ≡ without_dead d) → IfOk answer (λ (a : Acceptance). a.size ≡ told_size d)
-    → IfOk answer (λ (a : Acceptance). IsAcceptedDesign (without_dead d) clocks) → IfOk answer (IsAcceptedAs text top clocks)
-accepted_text text top clocks tokens source d (Ok a) short read elaborates kept left size judged =
+-- what is judged of the design, and of its delays, is said of the text
+pub accepted_text : (text : List ℕ) (top : Option (List ℕ)) (clocks : List (List ℕ)) (half : ℕ) (tokens : List Token) (source : Source) (d : Design) (a : Acceptance) → length text ≤ most_bytes → IsRead text tokens source
+    → elaborated_from source top ≡ Ok d → KeepsDrivers d → design_of a.flat ≡ without_dead d → a.size ≡ told_size d → IsAcceptedDesign (without_dead d) clocks → longest_delay (design_of a.flat).processes < half → IsAcceptedAs text top clocks half a
+accepted_text text top clocks half tokens source d a short read elaborates kept left size judged in_time =
     record {
-      accepted = record { short = short; tokens = tokens; source = source; read = read; written = d; elaborates = elaborates; kept = kept; left = left; accepted = subst (λ (e : Design). IsAcceptedDesign e clocks) (sym left) judged };
+      accepted = record {
+        short = short;
+        tokens = tokens;
+        source = source;
+        read = read;
+        written = d;
+        elaborates = elaborates;
+        kept = kept;
+        left = left;
+        accepted = subst (λ (e : Design). IsAcceptedDesign e clocks) (sym left) judged;
+        in_time = in_time;
+      };
       size_is = size;
     }
-accepted_text text top clocks tokens source d (Err e) short read elaborates kept left size judged = tt
-
-pub refused_text : {A : Type 0} (text : List ℕ) (top : Option (List ℕ)) (clocks : List (List ℕ)) (tokens : List Token) (source : Source) (d : Design) (answer : Result A AcceptError) → IsRead text tokens source → elaborated_from source top ≡ Ok d
-    → IfErr answer (IsAnswered (byte_of text tokens) d clocks) → IfErr answer (IsRefusalOf text top clocks)
-refused_text text top clocks tokens source d (Ok a) read elaborates v = tt
-refused_text text top clocks tokens source d (Err e) read elaborates v = by_rule text top clocks tokens source d e read elaborates v
-
--- the names of the outputs of the top are handed on
-pub with_outputs : (text : List ℕ) (top : Option (List ℕ)) (tokens : List Token) (source : Source) (names : List (List ℕ)) (answer : Result Acceptance AcceptError) → IsRead text tokens source
-    → IfOk answer (λ (a : Acceptance). a.outputs ≡ names) → names ≡ top_outputs source top → IfOk answer (HaveOutputs text top)
-with_outputs text top tokens source names (Ok a) read h e = record { tokens = tokens; source = source; read = read; outputs_are = h ∙ e }
-with_outputs text top tokens source names (Err x) read h e = tt
 
 -- where the text is accepted
-pub kept : OneDesign → NotBoth → (text : List ℕ) (top : Option (List ℕ)) (clocks : List (List ℕ)) (d : Design) (answer : Result Acceptance AcceptError) → IfOk answer (IsAcceptedAs text top clocks)
-    → IfErr answer (IsRefusalOf text top clocks) → IsAcceptedText text top clocks d → MatchResult answer (λ (a : Acceptance). design_of a.flat ≡ d) (λ (e : AcceptError). e ≡ Memory)
-kept one not_both text top clocks d (Ok a) ok err h = one text top clocks (design_of a.flat) d ok.accepted h
-kept one not_both text top clocks d (Err (Refused r)) ok err h = absurd (not_both text top clocks d r h err)
-kept one not_both text top clocks d (Err Memory) ok err h = refl
+pub kept : OneDesign → NotBoth → (text : List ℕ) (top : Option (List ℕ)) (clocks : List (List ℕ)) (half : ℕ) (d : Design) (answer : Result Acceptance AcceptError) → IfOk answer (IsAcceptedAs text top clocks half)
+    → IfErr answer (IsRefusalOf text top clocks half) → IsAcceptedText text top clocks half d → MatchResult answer (λ (a : Acceptance). design_of a.flat ≡ d) (λ (e : AcceptError). e ≡ Memory)
+kept one not_both text top clocks half d (Ok a) ok err h = one text top clocks half (design_of a.flat) d ok.accepted h
+kept one not_both text top clocks half d (Err (Refused r)) ok err h = absurd (not_both text top clocks half d r h err)
+kept one not_both text top clocks half d (Err Memory) ok err h = refl
 
 -- where the text is refused
-pub told : NotBoth → OneRefusal → (text : List ℕ) (top : Option (List ℕ)) (clocks : List (List ℕ)) (q : Refusal) (answer : Result Acceptance AcceptError) → IfOk answer (IsAcceptedAs text top clocks)
-    → IfErr answer (IsRefusalOf text top clocks) → IsRefusedText text top clocks q → IsErrAnd answer (TellsLike q)
-told not_both alike text top clocks q (Ok a) ok err h = absurd (not_both text top clocks (design_of a.flat) q ok.accepted h)
-told not_both alike text top clocks q (Err (Refused r)) ok err h = alike text top clocks r q err h
-told not_both alike text top clocks q (Err Memory) ok err h = tt
+pub told : NotBoth → OneRefusal → (text : List ℕ) (top : Option (List ℕ)) (clocks : List (List ℕ)) (half : ℕ) (q : Refusal) (answer : Result Acceptance AcceptError) → IfOk answer (IsAcceptedAs text top clocks half)
+    → IfErr answer (IsRefusalOf text top clocks half) → IsRefusedText text top clocks half q → IsErrAnd answer (TellsLike q)
+told not_both alike text top clocks half q (Ok a) ok err h = absurd (not_both text top clocks half (design_of a.flat) q ok.accepted h)
+told not_both alike text top clocks half q (Err (Refused r)) ok err h = alike text top clocks half r q err h
+told not_both alike text top clocks half q (Err Memory) ok err h = tt

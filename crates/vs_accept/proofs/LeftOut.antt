@@ -1,5 +1,5 @@
 -- Processes that are left out one after the other.
-use Rattle.std.proofs.Common.{◌≡◌, ℕ, zero, suc, ◌+◌, ◌-◌, ◌^◌, ◌<◌, ◌≤◌, Bool, true, false, ◌||◌, List, [], ◌∷◌, ◌++◌, map, set, take, length, get_or, refl, sym, ap, ap₂, ◌∙◌, subst, arith, Some, None, Option}
+use Rattle.std.proofs.Common.{◌≡◌, ℕ, zero, suc, ◌+◌, ◌-◌, ◌^◌, ◌<◌, ◌≤◌, Bool, true, false, ◌||◌, List, [], ◌∷◌, map, set, take, length, get_or, refl, sym, ap, ap₂, ◌∙◌, subst, arith, Some}
 use Rattle.std.specs.Prelude.{slice_get, Result, Ok, Err, OnOk}
 use Rattle.std.specs.List.{list_any}
 use Rattle.std.proofs.lemmas.List.{take_all}
@@ -11,7 +11,7 @@ use Rattle.vs_design.specs.Dead.{dead_nets, is_dead, left_of, without_dead}
 use Rattle.vs_flat.specs.declared.processes.Kind.{Kind}
 use Rattle.vs_flat.specs.declared.processes.Kind.TheVariants as K
 use Rattle.vs_flat.specs.declared.processes.Process.{Process as Flat}
-use Rattle.vs_flat.specs.Arena.{Arena, is_block, with_empty}
+use Rattle.vs_flat.specs.Arena.{Arena, is_block}
 use Rattle.vs_flat.specs.DesignOf.{process_of, kind_of, arena_signals, arena_trees, arena_statements, design_of}
 use Rattle.vs_flat.specs.Lawful.{IsLawful}
 use Rattle.vs_flat.specs.Laws.{EachProcess, LeftIsDesign, LeftIsLawful}

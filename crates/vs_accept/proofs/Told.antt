@@ -17,6 +17,7 @@ use Rattle.vs_const.specs.declared.faults.Fault.{Fault}
 use Rattle.vs_tops.specs.Designs.{elaborated_from}
 use Rattle.vs_design.specs.Designs.{Design, AnyProcess}
 use Rattle.vs_design.specs.Answers.{DesignRefusal, OfDriver, IsRefusedBy, KeepsDrivers, is_as_written, AsWritten, AsLeft}
+use Rattle.vs_design.specs.Accepted.{IsAcceptedDesign}
 use Rattle.vs_design.specs.Dead.{without_dead}
 use Rattle.vs_design.specs.Refusals as rule
 use Rattle.vs_flat.specs.declared.processes.AnyProcess as F
@@ -24,9 +25,9 @@ use Rattle.vs_flat.specs.TextOrder.{any_of}
 use Rattle.vs_refusal.specs.declared.refusal.Refusal.TheVariants as refusal
 use Rattle.vs_accept.specs.declared.error.AcceptError.{AcceptError}
 use Rattle.vs_accept.specs.declared.error.AcceptError.TheVariants.{Refused, Memory}
-use Rattle.vs_accept.specs.Accepted.{IsRead, ByTokens, ByMacros, ByTree, ByElaboration, ByRule}
+use Rattle.vs_accept.specs.Accepted.{IsRead, ByTokens, ByMacros, ByTree, ByElaboration, ByRule, ByDelay}
 use Rattle.vs_accept.specs.Refused.{byte_of, token_refusal, macro_refusal, TreeFault, IsTreeFault, tree_refusal, fault_refusal, design_refusal}
-use Rattle.vs_accept.specs.Answers.{refusal_in, IsRefusalOf, TellsJust, IsVerdict, IsFirstVerdict, IsAnswered}
+use Rattle.vs_accept.specs.Answers.{refusal_in, IsRefusalOf, TellsJust, IsVerdict, IsFirstVerdict, IsAnswered, IsLate}
 use Rattle.vs_accept.specs.Numbers.{number_of, begin_of}
 use Rattle.vs_accept.proofs.Answered.{none_some}
 
@@ -36,21 +37,21 @@ some_none : {A : Type 0} {a : A} {x : Option A} → Some a ≡ x → x ≡ None 
 some_none p q = none_some q (sym p)
 
 -- a text that isn't cut
-pub uncut : (text : List ℕ) (top : Option (List ℕ)) (clocks : List (List ℕ)) (l : LexError) (e : AcceptError) → (cut_text text ≡ Err l) ⊎ (l ≡ lexer.Memory) → refusal_in e ≡ token_refusal l → IsRefusalOf text top clocks e
-uncut text top clocks l (Refused r) (inl cut) told = ByTokens l cut (sym told)
-uncut text top clocks l (Refused r) (inr out) told = absurd (some_none told (ap token_refusal out))
-uncut text top clocks l Memory h told = tt
+pub uncut : (text : List ℕ) (top : Option (List ℕ)) (clocks : List (List ℕ)) (half : ℕ) (l : LexError) (e : AcceptError) → (cut_text text ≡ Err l) ⊎ (l ≡ lexer.Memory) → refusal_in e ≡ token_refusal l → IsRefusalOf text top clocks half e
+uncut text top clocks half l (Refused r) (inl cut) told = ByTokens l cut (sym told)
+uncut text top clocks half l (Refused r) (inr out) told = absurd (some_none told (ap token_refusal out))
+uncut text top clocks half l Memory h told = tt
 
 -- macros or conditional parts that aren't resolved
-pub unresolved : (text : List ℕ) (top : Option (List ℕ)) (clocks : List (List ℕ)) (written : List Token) (p : PreError) (e : AcceptError) → cut_text text ≡ Ok written → (pre text written ≡ Err p) ⊎ (p ≡ macro.Memory) → refusal_in e ≡ macro_refusal p → IsRefusalOf text top clocks e
-unresolved text top clocks written p (Refused r) cut (inl faulty) told = ByMacros written p cut faulty (sym told)
-unresolved text top clocks written p (Refused r) cut (inr out) told = absurd (some_none told (ap macro_refusal out))
-unresolved text top clocks written p Memory cut h told = tt
+pub unresolved : (text : List ℕ) (top : Option (List ℕ)) (clocks : List (List ℕ)) (half : ℕ) (written : List Token) (p : PreError) (e : AcceptError) → cut_text text ≡ Ok written → (pre text written ≡ Err p) ⊎ (p ≡ macro.Memory) → refusal_in e ≡ macro_refusal p → IsRefusalOf text top clocks half e
+unresolved text top clocks half written p (Refused r) cut (inl faulty) told = ByMacros written p cut faulty (sym told)
+unresolved text top clocks half written p (Refused r) cut (inr out) told = absurd (some_none told (ap macro_refusal out))
+unresolved text top clocks half written p Memory cut h told = tt
 
 -- tokens that spell no tree
-pub unspelled : (text : List ℕ) (top : Option (List ℕ)) (clocks : List (List ℕ)) (tokens : List Token) (x : TreeFault) (e : AcceptError) → ReadsAs text tokens → IsTreeFault tokens x
-    → e ≡ Refused (tree_refusal (byte_of text tokens) x) → IsRefusalOf text top clocks e
-unspelled text top clocks tokens x e reads fault is = subst (IsRefusalOf text top clocks) (sym is) (ByTree tokens x reads fault refl)
+pub unspelled : (text : List ℕ) (top : Option (List ℕ)) (clocks : List (List ℕ)) (half : ℕ) (tokens : List Token) (x : TreeFault) (e : AcceptError) → ReadsAs text tokens → IsTreeFault tokens x
+    → e ≡ Refused (tree_refusal (byte_of text tokens) x) → IsRefusalOf text top clocks half e
+unspelled text top clocks half tokens x e reads fault is = subst (IsRefusalOf text top clocks half) (sym is) (ByTree tokens x reads fault refl)
 
 -- a text is read as tokens of it
 pub tokens_are : TokensStand → KeptAreTokens → (text : List ℕ) (tokens : List Token) → ReadsAs text tokens → AreTokens text tokens
@@ -63,9 +64,9 @@ read_by text tokens source reads s = record { reads = reads; spelled = s }
 -- ---- elaboration
 
 -- a tree that doesn't elaborate
-pub unelaborated : (text : List ℕ) (top : Option (List ℕ)) (clocks : List (List ℕ)) (tokens : List Token) (source : Source) (f : Fault) (e : AcceptError) → IsRead text tokens source → elaborated_from source top ≡ Err f
-    → e ≡ Refused (fault_refusal (byte_of text tokens) f) → IsRefusalOf text top clocks e
-unelaborated text top clocks tokens source f e read broken is = subst (IsRefusalOf text top clocks) (sym is) (ByElaboration tokens source f read broken refl)
+pub unelaborated : (text : List ℕ) (top : Option (List ℕ)) (clocks : List (List ℕ)) (half : ℕ) (tokens : List Token) (source : Source) (f : Fault) (e : AcceptError) → IsRead text tokens source → elaborated_from source top ≡ Err f
+    → e ≡ Refused (fault_refusal (byte_of text tokens) f) → IsRefusalOf text top clocks half e
+unelaborated text top clocks half tokens source f e read broken is = subst (IsRefusalOf text top clocks half) (sym is) (ByElaboration tokens source f read broken refl)
 
 -- ---- the design
 
@@ -92,10 +93,16 @@ left_answer byte d clocks (Refused r) kept v = record { judged = without_dead d;
 left_answer byte d clocks Memory kept v = tt
 
 -- what is told of the design is told of the text
-pub by_rule : (text : List ℕ) (top : Option (List ℕ)) (clocks : List (List ℕ)) (tokens : List Token) (source : Source) (d : Design) (e : AcceptError) → IsRead text tokens source → elaborated_from source top ≡ Ok d
-    → IsAnswered (byte_of text tokens) d clocks e → IsRefusalOf text top clocks e
-by_rule text top clocks tokens source d (Refused r) read elaborates v = ByRule tokens source d v.judged v.breaks read elaborates v.refused v.told
-by_rule text top clocks tokens source d Memory read elaborates v = tt
+pub by_rule : (text : List ℕ) (top : Option (List ℕ)) (clocks : List (List ℕ)) (half : ℕ) (tokens : List Token) (source : Source) (d : Design) (e : AcceptError) → IsRead text tokens source → elaborated_from source top ≡ Ok d
+    → IsAnswered (byte_of text tokens) d clocks e → IsRefusalOf text top clocks half e
+by_rule text top clocks half tokens source d (Refused r) read elaborates v = ByRule tokens source d v.judged v.breaks read elaborates v.refused v.told
+by_rule text top clocks half tokens source d Memory read elaborates v = tt
+
+-- and so is what is told of its delays
+pub by_delay : (text : List ℕ) (top : Option (List ℕ)) (clocks : List (List ℕ)) (half : ℕ) (tokens : List Token) (source : Source) (d : Design) (e : AcceptError) → IsRead text tokens source → elaborated_from source top ≡ Ok d
+    → KeepsDrivers d → IsAcceptedDesign (without_dead d) clocks → IsLate (byte_of text tokens) half (without_dead d) e → IsRefusalOf text top clocks half e
+by_delay text top clocks half tokens source d (Refused r) read elaborates kept accepted v = ByDelay tokens source d v.late read elaborates kept accepted v.refused v.told
+by_delay text top clocks half tokens source d Memory read elaborates kept accepted v = tt
 
 -- the same of what may have found no memory
 pub verdict_or : (byte : ℕ → ℕ) (d : Design) (clocks : List (List ℕ)) (x : DesignRefusal) (e : AcceptError) → IsRefusedBy d clocks x → TellsJust (design_refusal byte d x) e → IsVerdict byte d clocks e

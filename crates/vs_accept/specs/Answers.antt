@@ -5,10 +5,11 @@ use Rattle.vs_elab.specs.declared.error.ElabError.{ElabError}
 use Rattle.vs_elab.specs.Reading.{Tells}
 use Rattle.vs_design.specs.Designs.{Design}
 use Rattle.vs_design.specs.Answers.{DesignRefusal, IsRefusedBy, is_as_written, IsJudged}
+use Rattle.vs_design.specs.Refusals as rule
 use Rattle.vs_refusal.specs.declared.refusal.Refusal.{Refusal}
 use Rattle.vs_accept.specs.declared.error.AcceptError.{AcceptError}
 use Rattle.vs_accept.specs.declared.error.AcceptError.TheVariants.{Refused, Memory}
-use Rattle.vs_accept.specs.Refused.{design_refusal}
+use Rattle.vs_accept.specs.Refused.{design_refusal, delay_refusal}
 use Rattle.vs_accept.specs.Accepted.{IsRefusedText, AreAlike}
 
 -- the refusal that it tells
@@ -17,9 +18,9 @@ refusal_in (Refused r) = Some r
 refusal_in Memory = None
 
 -- the text is refused so
-abbrev pub IsRefusalOf : (text : List ℕ) (top : Option (List ℕ)) (clocks : List (List ℕ)) → AcceptError → Type 0
-IsRefusalOf text top clocks (Refused r) = IsRefusedText text top clocks r
-IsRefusalOf text top clocks Memory = Unit {0}
+abbrev pub IsRefusalOf : (text : List ℕ) (top : Option (List ℕ)) (clocks : List (List ℕ)) (half : ℕ) → AcceptError → Type 0
+IsRefusalOf text top clocks half (Refused r) = IsRefusedText text top clocks half r
+IsRefusalOf text top clocks half Memory = Unit {0}
 
 -- it tells the same refusal as this one, but for what is left open
 abbrev pub TellsLike : Refusal → AcceptError → Type 0
@@ -70,3 +71,13 @@ pub record IsJudgement (byte : ℕ → ℕ) (d : Design) (clocks : List (List �
 abbrev pub IsAnswered : (byte : ℕ → ℕ) → Design → List (List ℕ) → AcceptError → Type 0
 IsAnswered byte d clocks (Refused r) = IsJudgement byte d clocks r
 IsAnswered byte d clocks Memory = Unit {0}
+
+-- its greatest delay isn't below half the clock's period, and this tells where it stands
+pub record IsToldLate (byte : ℕ → ℕ) (half : ℕ) (d : Design) (r : Refusal) : Type 0 where
+  pub late : rule.DelayRefusal
+  pub refused : rule.delay_refusal half d ≡ Some late
+  pub told : delay_refusal byte late ≡ r
+
+abbrev pub IsLate : (byte : ℕ → ℕ) → ℕ → Design → AcceptError → Type 0
+IsLate byte half d (Refused r) = IsToldLate byte half d r
+IsLate byte half d Memory = Unit {0}

@@ -1,5 +1,5 @@
 -- Processes that are left out one after the other.
-use Rattle.std.specs.Prelude.{◌≡◌, ℕ, Bool, true, false, List, [], ◌∷◌}
+use Rattle.std.specs.Prelude.{ℕ, Bool, true, false, List, [], ◌∷◌}
 use Rattle.vs_design.specs.Statements.{Empty}
 use Rattle.vs_design.specs.Designs.{Process, Always, process_place}
 use Rattle.vs_flat.specs.Arena.{Arena, with_empty}

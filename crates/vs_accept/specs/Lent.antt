@@ -30,6 +30,6 @@ pub record IsAcceptance (clocks : List (List ℕ)) (a : Acceptance) : Type 0 whe
   pub selects_are : a.selects ≡ select_firsts (design_of a.flat)
 
 -- the text is accepted as its design, and the size is told of what the text elaborates to
-pub record IsAcceptedAs (text : List ℕ) (top : Option (List ℕ)) (clocks : List (List ℕ)) (a : Acceptance) : Type 0 where
-  pub accepted : IsAcceptedText text top clocks (design_of a.flat)
+pub record IsAcceptedAs (text : List ℕ) (top : Option (List ℕ)) (clocks : List (List ℕ)) (half : ℕ) (a : Acceptance) : Type 0 where
+  pub accepted : IsAcceptedText text top clocks half (design_of a.flat)
   pub size_is : a.size ≡ told_size accepted.written

@@ -130,3 +130,7 @@ design_refusal byte d (OfClock r) = clock_refusal byte d r
 design_refusal byte d (Cycle processes at) = refusal.Cycle (map (process_number d) processes) (byte at)
 design_refusal byte d (OfRace r) = race_refusal byte d r
 design_refusal byte d (OfZero r) = zero_refusal byte d r
+
+-- of its delays
+abbrev pub delay_refusal : (byte : ℕ → ℕ) → rule.DelayRefusal → Refusal
+delay_refusal byte (rule.Delay at) = refusal.At name.Delay (byte at)

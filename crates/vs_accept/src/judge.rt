@@ -1,9 +1,10 @@
 //! The rules on an elaborated design.
 
-ghost use Rattle.std.specs.Prelude.{◌≡◌, IfOk, IfErr, OnOk, ℕ, List, map, max};
+ghost use Rattle.std.specs.Prelude.{◌≡◌, IfOk, IfErr, OnOk, ℕ, List, None, map, max};
 ghost use Rattle.vs_design.specs.Accepted.{IsAcceptedDesign};
 ghost use Rattle.vs_design.specs.Answers.{KeepsDrivers};
 ghost use Rattle.vs_design.specs.Dead.{without_dead};
+ghost use Rattle.vs_design.specs.Refusals.{delay_refusal};
 ghost use Rattle.vs_design.specs.Sizes as sizes;
 ghost use Rattle.vs_flat.specs.DesignOf.{design_of};
 ghost use Rattle.vs_flat.specs.Lawful.{IsLawful};
@@ -11,7 +12,7 @@ ghost use Rattle.vs_full.specs.Found.{AreAllNoted};
 ghost use Rattle.vs_reads.specs.Footprint.{footprints_of};
 ghost use Rattle.vs_accept.specs.Refused.{byte_of};
 ghost use Rattle.vs_accept.specs.Accepted.{told_size};
-ghost use Rattle.vs_accept.specs.Answers.{IsAnswered, IsFirstVerdict, IsVerdict};
+ghost use Rattle.vs_accept.specs.Answers.{IsAnswered, IsFirstVerdict, IsLate, IsVerdict};
 ghost use Rattle.vs_accept.specs.Lent.{IsAcceptance};
 
 use crate::leaving::{has_mark, left_out};
@@ -19,13 +20,14 @@ use crate::places::Places;
 use crate::{AcceptError, Accepted};
 use std::alloc::{AllocError, Global};
 use vs_base::Text;
-use vs_block::block_forms;
+use vs_block::{block_forms, late_delay};
 use vs_clock::dead_blocks;
 use vs_design::accepted_law;
 use vs_flat::Flat;
 use vs_full::Cases;
 use vs_race::races;
 use vs_reads::{Footprints, footprints};
+use vs_refusal::AtName;
 use vs_typed::{Typed, fits_law, type_design};
 
 /// What each process of a design reads, writes and waits on.
@@ -162,7 +164,7 @@ fn judge_written(
     judge_left(alloc, places, left, size, outputs, clocks)
 }
 
-/// Judges an elaborated design by all rules, in their order: the first one that it breaks is told. The rules on lengths and the size, on functions and blocks, and on drivers are asked
+/// Judges an elaborated design by all rules but that on delays, in their order: the first one that it breaks is told. The rules on lengths and the size, on functions and blocks, and on drivers are asked
 /// of the design as it is written, and then all rules of what is left of it without its dead blocks. `clocks` are the names of the clock inputs, if there are any, and its top's
 /// outputs have these names, which go with it.
 pub(crate) fn judge(
@@ -188,4 +190,16 @@ pub(crate) fn judge(
     let footprints = prints_of(alloc, &typed)?;
     let cases = check_writers(alloc, places, &typed, &footprints)?;
     judge_written(alloc, places, typed, footprints, cases, outputs, clocks)
+}
+
+/// The rule Delay, which is the last: the delay of each update is less than half a clock's period, which has so many units of time. It is asked of what is left of a design without its
+/// dead blocks.
+pub(crate) fn check_delays(places: &Places<'_>, typed: &Typed, half: u32) -> Result<(), AcceptError>
+    ensures in_time { OnOk result (delay_refusal half (design_of typed.now) ≡ None) }
+    ensures refused { IfErr result (IsLate (byte_of places.now.text.now places.now.tokens.now) half (design_of typed.now)) }
+{
+    match late_delay(typed, half) {
+        Some(at) => Err(places.refused_at(AtName::Delay, at)),
+        None => Ok(()),
+    }
 }

@@ -72,7 +72,7 @@ fn rule_name(rule: Rule) -> Option<AtName>
 impl Places<'_> {
     /// The tokens spell no tree.
     pub(crate) fn tree_error(&self, error: ParseError) -> AcceptError
-        ensures { (top : Option (List ℕ)) (clocks : List (List ℕ)) → ReadsAs self.now.text.now self.now.tokens.now → TreeFault self.now.tokens.now error → IsRefusalOf self.now.text.now top clocks result }
+        ensures { (top : Option (List ℕ)) (clocks : List (List ℕ)) (half : ℕ) → ReadsAs self.now.text.now self.now.tokens.now → TreeFault self.now.tokens.now error → IsRefusalOf self.now.text.now top clocks half result }
     {
         match error {
             ParseError::LeftOut(token) => self.refused_at(AtName::LeftOut, token),
@@ -84,7 +84,7 @@ impl Places<'_> {
 
     /// The tree doesn't elaborate.
     pub(crate) fn elab_error(&self, error: ElabError) -> AcceptError
-        ensures { (source : Source) (top : Option (List ℕ)) (clocks : List (List ℕ)) → IsRead self.now.text.now self.now.tokens.now source → IsElabError (elaborated_from source top) error → IsRefusalOf self.now.text.now top clocks result }
+        ensures { (source : Source) (top : Option (List ℕ)) (clocks : List (List ℕ)) (half : ℕ) → IsRead self.now.text.now self.now.tokens.now source → IsElabError (elaborated_from source top) error → IsRefusalOf self.now.text.now top clocks half result }
     {
         match error {
             ElabError::Broken(fault) => self.fault_error(fault),

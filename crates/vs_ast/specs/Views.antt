@@ -134,7 +134,7 @@ targets (x ∷ xs) = tree.AndTarget (target x) (targets xs)
 abbrev mutual
   pub statement : Statement → tree.Statement
   statement (Empty place) = tree.Empty place
-  statement (Assignment x e b) = tree.Assignment (target x) (expr e) b
+  statement (Assignment x e b d) = tree.Assignment (target x) (expr e) b (option expr d)
   statement (If' place c p s other) = tree.If place (expr c) (statement s) (other_statement other)
   statement (Case' place k e shape all other) = tree.Case place k (expr e) (arm_row all) (other_statement other)
   statement (Sequence' place scope shape all) = tree.Sequence place (option block_scope scope) (statement_row all)

@@ -26,11 +26,12 @@ pub enum Statement {
     Empty {
         place: u32,
     },
-    /// `=` (9.2.1), or `<=` where it is not blocking (9.2.2).
+    /// `=` (9.2.1), or `<=` where it is not blocking (9.2.2), perhaps with a delay (9.7.7).
     Assignment {
         target: Target,
         value: Expr,
         blocking: bool,
+        delay: Option<Expr>,
     },
     /// 9.4
     If {

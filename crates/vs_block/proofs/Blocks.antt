@@ -18,6 +18,7 @@ use Rattle.vs_design.specs.Rules.{mixed_in, mixed_assigns, missing_bits, latches
 use Rattle.vs_design.specs.Selects.{meant}
 use Rattle.vs_design.specs.Refusals.{least, otherwise, first_in, where_true, signal_of, block_refusal_of, block_refusal_at, block_refusal, width_refusal}
 use Rattle.vs_design.specs.Refusals as R
+use Rattle.vs_design.specs.Delays.{has_delays}
 use Rattle.vs_flat.specs.declared.processes.Event.{Event}
 use Rattle.vs_flat.specs.DesignOf.{event_of, kind_of, arena_signals, design_of}
 use Rattle.vs_flat.specs.declared.processes.Process.{Process}
@@ -239,11 +240,23 @@ none_more d n x at h none m y l k = go (m == n) refl
 
 -- ---- initial processes
 
-pub initial_kept : (d : Design) (k : ℕ) (i : D.Initial) → is_fixed i.statement ≡ true → block_refusal_at d (OfInitial k i) ≡ None
-initial_kept d k i h = ap (λ (c : Bool). where_true (not c) (R.InitialForm k i.place)) h
+-- a statement that may be that of an initial process
+abbrev pub is_start : T.Statement → Bool
+is_start s = is_fixed s && not (has_delays s)
 
-pub initial_refused : (d : Design) (k : ℕ) (i : D.Initial) → is_fixed i.statement ≡ false → block_refusal_at d (OfInitial k i) ≡ Some (R.InitialForm k i.place)
-initial_refused d k i h = ap (λ (c : Bool). where_true (not c) (R.InitialForm k i.place)) h
+other_start : (f h : Bool) → (not f || h) ≡ not (f && not h)
+other_start true true = refl
+other_start true false = refl
+other_start false h = refl
+
+at_start : (d : Design) (k : ℕ) (i : D.Initial) (c : Bool) → is_start i.statement ≡ c → block_refusal_at d (OfInitial k i) ≡ where_true (not c) (R.InitialForm k i.place)
+at_start d k i c h = ap (λ (t : Bool). where_true t (R.InitialForm k i.place)) (other_start (is_fixed i.statement) (has_delays i.statement) ∙ ap not h)
+
+pub initial_kept : (d : Design) (k : ℕ) (i : D.Initial) → is_start i.statement ≡ true → block_refusal_at d (OfInitial k i) ≡ None
+initial_kept d k i h = at_start d k i true h
+
+pub initial_refused : (d : Design) (k : ℕ) (i : D.Initial) → is_start i.statement ≡ false → block_refusal_at d (OfInitial k i) ≡ Some (R.InitialForm k i.place)
+initial_refused d k i h = at_start d k i false h
 
 -- what `?` hands on
 pub refused_exit : {A : Type 0} (d : Design) (r : Result A BlockError) (e : BlockError) → IsErrAnd r (λ y. y ≡ e) → IsBlockError d e → IfErr r (IsBlockError d)

@@ -52,9 +52,9 @@ noted_early own reads assigned before noted h k l bits stands =
 
 -- ---- an assignment
 
-pub assignment_walked : (own : List ℕ) (place : ℕ) (t : T.Target) (e : E.Expression) (blocking : Bool) (assigned before noted : List Bool) (found : List ℕ) → AreNoted own (target_reads t ++ read_bits e) assigned before noted → AreFlagged own (assigns t) assigned false found
-    → IsWalked own (assigned_after (T.Assignment place t e blocking)) (early_reads (T.Assignment place t e blocking)) assigned before noted found
-assignment_walked own place t e blocking assigned before noted found reads flagged = record {
+pub assignment_walked : (own : List ℕ) (place : ℕ) (t : T.Target) (e : E.Expression) (blocking : Bool) (delay : ℕ) (assigned before noted : List Bool) (found : List ℕ) → AreNoted own (target_reads t ++ read_bits e) assigned before noted → AreFlagged own (assigns t) assigned false found
+    → IsWalked own (assigned_after (T.Assignment place t e blocking delay)) (early_reads (T.Assignment place t e blocking delay)) assigned before noted found
+assignment_walked own place t e blocking delay assigned before noted found reads flagged = record {
   assigns = λ k l bits stands.
       contains-append (assigns t) bits (bit_at own k) ∙ ap {B = Bool} (λ x. contains (assigns t) (bit_at own k) || x) stands ∙ assigned_law (contains (assigns t) (bit_at own k)) (is_set assigned k)
       ∙ ap {B = Bool} (λ f. is_set assigned k || f) (sym (flagged k l));

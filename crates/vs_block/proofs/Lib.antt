@@ -2,6 +2,7 @@ pub mod Truth
 pub mod FlagSteps
 pub mod Names
 pub mod Mixing
+pub mod Delaying
 pub mod TargetParts
 pub mod Branching
 pub mod Least

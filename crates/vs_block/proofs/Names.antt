@@ -122,11 +122,11 @@ is_there (Some t) d h = refl
 
 parts_at : StatementTargets → (a : Arena) → IsLawful a → (s place : ℕ) (m : Placed Statement) → slice_get a.statements s ≡ Some m → (b : Statement) → m.item ≡ b → statement_names_below (length a.nodes) s b ≡ true → fits_statement (body_of_statement a place b) ≡ true → HasParts a s b
 parts_at law a lawful s place m at S.Empty is h f = tt
-parts_at law a lawful s place m at (S.Assign target e blocking) is h f =
+parts_at law a lawful s place m at (S.Assign target e blocking delay) is h f =
     let n = (and_both (all_below (length a.nodes) (target ∷ e ∷ [])) true h).0 in
     let both = and_both (fits_target (target_tree (tree_of a target))) (is_fit (tree_of a e)) f in (
       first_below (length a.nodes) target (e ∷ []) n,
-      record { target = is_there (target_of (tree_of a target)) (target_tree (tree_of a target)) (law a lawful s m.at target e blocking (at ∙ ap (λ x. Some (placed x m.at)) is)); fits = both.0 },
+      record { target = is_there (target_of (tree_of a target)) (target_tree (tree_of a target)) (law a lawful s m.at target e blocking delay (at ∙ ap (λ x. Some (placed x m.at)) is)); fits = both.0 },
       fit_value a e (first_below (length a.nodes) e [] (rest_below (length a.nodes) target (e ∷ []) n)) both.1,
     )
 parts_at law a lawful s place m at (S.If c taken other) is h f =

@@ -3,5 +3,6 @@ pub mod Parts
 pub mod Walked
 pub mod Refused
 pub mod Mixed
+pub mod Late
 pub mod Blocks
 pub mod Functions

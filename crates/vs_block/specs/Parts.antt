@@ -38,7 +38,7 @@ AreArms a s arms = (k : ℕ) (arm : Arm) → slice_get arms k ≡ Some arm → I
 
 abbrev pub HasParts : Arena → ℕ → Statement → Type 0
 HasParts a s S.Empty = Unit {0}
-HasParts a s (S.Assign target e blocking) = (target < length a.nodes) × IsTarget (tree_of a target) × IsValue a e
+HasParts a s (S.Assign target e blocking delay) = (target < length a.nodes) × IsTarget (tree_of a target) × IsValue a e
 HasParts a s (S.If c taken other) = IsValue a c × IsPart a s taken × IsBranch a s other
 HasParts a s (S.Case kind of arms other) = IsValue a of × AreArms a s arms × IsBranch a s other
 HasParts a s (S.Seq parts) = AreParts a s parts

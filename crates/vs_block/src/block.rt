@@ -1,6 +1,7 @@
 //! The rules on blocks and initial processes.
 
-ghost use Rattle.std.specs.Prelude.{◌≡◌, ◌<◌, ℕ, true, false, length, slice_get, slice_index_or, Some, None, IfOk, IfErr, OnOk};
+ghost use Rattle.std.specs.Prelude.{◌≡◌, ◌<◌, ◌&&◌, ℕ, true, not, false, length, slice_get, slice_index_or, Some, None, IfOk, IfErr, OnOk};
+ghost use Rattle.vs_design.specs.Delays.{has_delays};
 ghost use Rattle.vs_design.specs.Designs as D;
 ghost use Rattle.vs_design.specs.Designs.{OfInitial};
 ghost use Rattle.vs_design.specs.Refusals.{block_refusal_of, block_refusal_at, block_refusal};
@@ -13,6 +14,7 @@ ghost use Rattle.vs_design.specs.Fits.{fits_statement};
 ghost use Rattle.vs_design.specs.Footprints.{contains, statement_bits};
 ghost use Rattle.vs_design.specs.Latches.{latch_bits};
 ghost use Rattle.vs_design.specs.Refusals.{least};
+ghost use Rattle.vs_design.specs.Resets.{is_fixed};
 ghost use Rattle.vs_design.specs.Selects.{is_lenient, meant};
 ghost use Rattle.vs_shape.specs.Bodies.{body_of};
 ghost use Rattle.vs_full.specs.Found.{AreAllNoted, AreNoted, AreSound, IsGrown};
@@ -20,6 +22,7 @@ ghost use Rattle.vs_block.specs.Blocks.{IsBlock, IsLooked};
 ghost use Rattle.vs_block.specs.Refused.{IsBlockError, IsErrorAt, IsErrorOf};
 
 use crate::BlockError;
+use crate::delays::has_delays;
 use crate::functions::first_latching;
 use crate::latches::first_latch;
 use crate::missing::{first_missing, signal_with};
@@ -264,7 +267,18 @@ fn check_process(
     }
 }
 
-/// Whether initial process k names no signal but as a target, by constant selects, and calls no function (IEEE 1364-2005, 9.9.1).
+/// Whether a statement may be that of an initial process (IEEE 1364-2005, 9.9.1): it names no signal but as a target, by constant selects, calls no function, and has no update after a delay.
+fn is_start(shapes: &Shapes, statement: u32) -> bool
+    requires there { statement < length shapes.now.statements }
+    requires fits { fits_statement (body_of shapes.now statement) ≡ true }
+    ensures { result ≡ (is_fixed (body_of shapes.now statement) && not (has_delays (body_of shapes.now statement))) }
+{
+    let fixed = is_fixed(shapes, statement);
+    let late = has_delays(shapes, statement);
+    fixed && !late
+}
+
+/// Whether initial process k has such a statement.
 fn check_initial(typed: &Typed, k: u32) -> Result<(), BlockError>
     requires { k < length typed.now.initials }
     ensures kept { (i : D.Initial) → slice_get (design_of typed.now).initials k ≡ Some i → OnOk result (block_refusal_at (design_of typed.now) (OfInitial k i) ≡ None) }
@@ -272,8 +286,9 @@ fn check_initial(typed: &Typed, k: u32) -> Result<(), BlockError>
 {
     names_law();
     trees_law();
+    fits_law();
     let initial = typed.flat().initial(k);
-    if is_fixed(typed.shapes(), initial.statement) {
+    if is_start(typed.shapes(), initial.statement) {
         return Ok(());
     }
     Err(BlockError::InitialForm {
@@ -306,7 +321,7 @@ fn check_next(
     }
 }
 
-/// Whether every function, every block and every initial process of a design keeps the rules. A function assigns what it writes before it reads it, on every path, and by its end; the first in the text that doesn't decides. Then a combinational block has no nonblocking assignment, waits on all that it reads and keeps no bit; an initial process names no signal but as a target, by constant selects, and calls no function. The first of them in the text that breaks a rule decides; within a process a mixed assignment comes before a missing signal, and that before a latch.
+/// Whether every function, every block and every initial process of a design keeps the rules. A function assigns what it writes before it reads it, on every path, and by its end; the first in the text that doesn't decides. Then a combinational block has no nonblocking assignment, waits on all that it reads and keeps no bit; an initial process names no signal but as a target, by constant selects, calls no function, and has no update after a delay. The first of them in the text that breaks a rule decides; within a process a mixed assignment comes before a missing signal, and that before a latch.
 /// What is found of its cases on the way is told.
 pub fn block_forms(
     alloc: Global,

@@ -9,7 +9,7 @@ pub enum BlockError {
     /// A function writes a variable of its own, or its result, and on some path reads it before it assigns it, or doesn't assign it (IEEE 1364-2005, 10.4). The function begins at token `at`.
     #[error("the function at {at} may keep a value")]
     FunctionLatch { at: u32 },
-    /// An initial process names a signal that isn't a target, or calls a function, or has a target by an index that isn't constant (IEEE 1364-2005, 9.9.1). It begins at token `at`.
+    /// An initial process names a signal that isn't a target, or calls a function, or has a target by an index that isn't constant, or an update after a delay (IEEE 1364-2005, 9.9.1). It begins at token `at`.
     #[error("initial process {initial} has another form")]
     InitialForm { initial: u32, at: u32 },
     /// A combinational block has a nonblocking assignment (IEEE 1364-2005, 9.2). The first of them in the text begins at token `at`.

@@ -2,7 +2,7 @@
 use Rattle.std.proofs.Common.{◌≡◌, ℕ, ◌-◌, ◌<◌, Bool, false, List, Option, Some, None, Vec, Box, Global, Result, IfOk, IfErr, sym, ap, ◌∙◌, subst}
 use Rattle.vs_base.specs.declared.events.CaseKind.{CaseKind}
 use Rattle.vs_grammar.specs.Trees as tree
-use Rattle.vs_grammar.specs.Shapes.{IsStatement, AreStatements, AreArms, IsHead, IsExpr, IsTarget}
+use Rattle.vs_grammar.specs.Shapes.{Given, IsStatement, AreStatements, AreArms, IsHead, IsExpr, IsTarget}
 use Rattle.vs_ast.specs.declared.expressions.Expr.{Expr}
 use Rattle.vs_ast.specs.declared.types.BlockScope.{BlockScope}
 use Rattle.vs_ast.specs.declared.types.LoopHead.{LoopHead}
@@ -13,6 +13,7 @@ use Rattle.vs_ast.specs.Views as view
 use Rattle.vs_const.specs.declared.faults.Fault.{Fault}
 use Rattle.vs_const.specs.Faults.{least}
 use Rattle.vs_const.specs.Meanings.{Find}
+use Rattle.vs_const.specs.Delays.{delay_of}
 use Rattle.vs_const.specs.Expressions.{typed}
 use Rattle.vs_elaborated.specs.Statements.{Body, assignment, scope_locals, scoped, local_faults}
 use Rattle.vs_bodies.specs.declared.told.Told.{Told}
@@ -31,19 +32,21 @@ module _ (b : Bool) (body : Body) (find : Find) (s : Statement) where
   empty_over place left r e k =
       over_of r left (one b) (tells b (view.statement s) body find) (λ h. alone_over left nothing (one b) (tells b (view.statement s) body find) (ap (λ x. tells b (view.statement x) body find) e) h) k
 
-  pub assigned_told : (t : Target) (v : Expr) (blocking : Bool) (said : Told) (r : Result Told Stop) → s ≡ Assignment t v blocking
-      → said ≡ told false (assignment body (view.target t) find (typed (view.expr v) find false) blocking) → IfOk r (λ w. w ≡ joined said (one b)) → IfOk r (λ w. w ≡ tells b (view.statement s) body find)
-  assigned_told t v blocking said r e h k =
+  pub assigned_told : (t : Target) (v : Expr) (blocking : Bool) (delay : Option Expr) (said : Told) (r : Result Told Stop) → s ≡ Assignment t v blocking delay
+      → said ≡ told false (assignment body (view.target t) find (typed (view.expr v) find false) blocking (delay_of find (view.option view.expr delay))) → IfOk r (λ w. w ≡ joined said (one b)) → IfOk r (λ w. w ≡ tells b (view.statement s) body find)
+  assigned_told t v blocking delay said r e h k =
       told_as r (joined said (one b)) (tells b (view.statement s) body find) (ap (λ z. joined z (one b)) h ∙ sym (ap (λ x. tells b (view.statement x) body find) e)) k
 
-  pub assigned_over : (t : Target) (v : Expr) (blocking : Bool) (left : ℕ) (r : Result Told Stop) → s ≡ Assignment t v blocking → IfErr r (λ x. x ≡ Over → left < (one b).count)
+  pub assigned_over : (t : Target) (v : Expr) (blocking : Bool) (delay : Option Expr) (left : ℕ) (r : Result Told Stop) → s ≡ Assignment t v blocking delay → IfErr r (λ x. x ≡ Over → left < (one b).count)
       → IfErr r (λ x. x ≡ Over → left < (tells b (view.statement s) body find).count)
-  assigned_over t v blocking left r e k =
+  assigned_over t v blocking delay left r e k =
       over_of r left (one b) (tells b (view.statement s) body find)
-      (λ h. alone_over left (told false (assignment body (view.target t) find (typed (view.expr v) find false) blocking)) (one b) (tells b (view.statement s) body find) (ap (λ x. tells b (view.statement x) body find) e) h) k
+      (λ h. alone_over left (told false (assignment body (view.target t) find (typed (view.expr v) find false) blocking (delay_of find (view.option view.expr delay)))) (one b) (tells b (view.statement s) body find) (ap (λ x. tells b (view.statement x) body find) e) h) k
 
-  pub assignment_shaped : (t : Target) (v : Expr) (blocking : Bool) → s ≡ Assignment t v blocking → IsStatement (view.statement s) → IsTarget (view.target t) × IsExpr (view.expr v)
-  assignment_shaped t v blocking e h = subst (λ x. IsStatement (view.statement x)) e h
+  pub assignment_shaped : (t : Target) (v : Expr) (blocking : Bool) (delay : Option Expr) → s ≡ Assignment t v blocking delay → IsStatement (view.statement s) → IsTarget (view.target t) × IsExpr (view.expr v) × Given IsExpr (view.option view.expr delay)
+  assignment_shaped t v blocking delay e h =
+      let all : IsStatement (tree.Assignment (view.target t) (view.expr v) blocking (view.option view.expr delay)) = subst (λ x. IsStatement (view.statement x)) e h in
+      (all.0, all.1, all.2)
 
   -- ---- conditions
 

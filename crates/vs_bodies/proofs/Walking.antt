@@ -15,7 +15,8 @@ use Rattle.vs_ast.specs.declared.statements.Statement.{Statement, If, Case, Sequ
 use Rattle.vs_ast.specs.Views as view
 use Rattle.vs_const.specs.Faults.{least}
 use Rattle.vs_const.specs.Meanings.{Find}
-use Rattle.vs_const.specs.Typed.{Typed}
+use Rattle.vs_const.specs.Typed.{Typed, Natural}
+use Rattle.vs_const.specs.Delays.{delay_of}
 use Rattle.vs_const.specs.Expressions.{typed}
 use Rattle.vs_elaborated.specs.Statements.{Body, typed_list, not_there, in_block, assignment, scope_locals, scoped, repeated_locals, untaken_locals, local_faults, typed_statement, typed_fallback, typed_sequence, typed_arms}
 use Rattle.vs_bodies.specs.declared.told.Told.{Told}
@@ -103,9 +104,9 @@ plain_told b body find place parts = by body.takes_variables
     by true = refl
     by false = refl
 
-assignment_told : (b : Bool) (body : Body) (target : tree.Target) (find : Find) (e : Typed) (blocking : Bool) → joined (told false (assignment body target find e blocking)) (one b) ≡ told b (assignment body target find e blocking)
-assignment_told true body target find e blocking = same _ _ _ _ _ _ (better_none _) refl (omega arith)
-assignment_told false body target find e blocking = same _ _ _ _ _ _ (better_none _) refl (omega arith)
+assignment_told : (b : Bool) (body : Body) (target : tree.Target) (find : Find) (e : Typed) (blocking : Bool) (delay : Natural) → joined (told false (assignment body target find e blocking delay)) (one b) ≡ told b (assignment body target find e blocking delay)
+assignment_told true body target find e blocking delay = same _ _ _ _ _ _ (better_none _) refl (omega arith)
+assignment_told false body target find e blocking delay = same _ _ _ _ _ _ (better_none _) refl (omega arith)
 
 -- ---- all of it
 
@@ -113,7 +114,7 @@ assignment_told false body target find e blocking = same _ _ _ _ _ _ (better_non
 mutual
   pub tells_is : (b : Bool) (s : tree.Statement) (body : Body) (find : Find) → tells b s body find ≡ told b (typed_statement s body find)
   tells_is b (tree.Empty place) body find = sym (nothing_told b)
-  tells_is b (tree.Assignment target e blocking) body find = assignment_told b body target find (typed e find false) blocking
+  tells_is b (tree.Assignment target e blocking delay) body find = assignment_told b body target find (typed e find false) blocking (delay_of find delay)
   tells_is b (tree.If place c taken other) body find =
       let v = joined (told_value (typed c find false)) (one b) in
       joined_assoc v (tells b taken body find) (tells_other b other body find)

@@ -5,11 +5,12 @@ use Rattle.vs_const.specs.declared.faults.Fault.{Fault}
 use Rattle.vs_const.specs.declared.rules.Rule.TheVariants.{LoopTurns}
 use Rattle.vs_const.specs.Faults.{fault, least, better}
 use Rattle.vs_const.specs.CallDepths.{call_depth, items_depth, target_depth, calls_in, arms_depth}
-use Rattle.vs_const.specs.Typed.{Typed}
+use Rattle.vs_const.specs.Typed.{Typed, Natural}
 use Rattle.vs_elaborated.specs.Targets.{TypedTarget}
 use Rattle.vs_grammar.specs.Trees as tree
 use Rattle.vs_const.specs.Meanings.{Find, turning}
 use Rattle.vs_const.specs.Expressions.{typed, constant}
+use Rattle.vs_const.specs.Delays.{delay_of}
 use Rattle.vs_elaborated.specs.Statements.{Body, TypedStatement, TypedArms, TypedList, typed_list, not_there, assignment, scope_locals, scoped, local_faults, given, goes_on, variable_faults, second_faults, typed_arms}
 use Rattle.vs_design.specs.Expressions.{items_of}
 use Rattle.vs_bodies.specs.declared.told.Told.{Told}
@@ -56,6 +57,10 @@ told_labels t = broken (least t.faults) (items_depth (items_of t.expressions))
 abbrev pub told_target : TypedTarget → Told
 told_target t = broken (least t.faults) (target_depth t.target)
 
+-- of a delay, in which nothing is called
+abbrev pub told_delay : Natural → Told
+told_delay n = broken (least n.faults) 0
+
 -- arms where there is no default
 abbrev pub arms_alone : tree.CaseArms → Body → Find → TypedArms
 arms_alone arms body find = typed_arms arms body find (not_there [])
@@ -100,7 +105,7 @@ tells_loop in_loop body copy head find None =
 abbrev mutual
   pub tells : (in_loop : Bool) → tree.Statement → Body → Find → Told
   tells b (tree.Empty place) body find = joined nothing (one b)
-  tells b (tree.Assignment target e blocking) body find = joined (told false (assignment body target find (typed e find false) blocking)) (one b)
+  tells b (tree.Assignment target e blocking delay) body find = joined (told false (assignment body target find (typed e find false) blocking (delay_of find delay))) (one b)
   tells b (tree.If place c taken other) body find = joined (joined (joined (told_value (typed c find false)) (one b)) (tells b taken body find)) (tells_other b other body find)
   tells b (tree.Case place kind subject arms other) body find = joined (joined (joined (told_value (typed subject find false)) (one b)) (tells_arms b arms body find)) (tells_other b other body find)
   tells b (tree.Sequence place None parts) body find = tells_sequence b parts body find

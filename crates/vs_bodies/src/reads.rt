@@ -59,6 +59,16 @@ fn push_labels<E: Env>(list: &mut Vec<Mention>, labels: &[Expr], env: &E) -> Res
     Ok(())
 }
 
+/// Adds those of a delay, if there is one.
+fn push_delay<E: Env>(list: &mut Vec<Mention>, e: &Option<Expr>, env: &E) -> Result<(), AllocError>
+    ensures { OnOk result (all_told list.new.items ≡ all_told list.old.items ++ all_told_of (spec.delay_mentions (view.option view.expr e.now) (E.names env.now))) }
+{
+    match e {
+        None => Ok(()),
+        Some(e) => push_mentions(list, e, env, false),
+    }
+}
+
 /// Adds the signals that a statement comes to, in the order of the text; a loop is looked at once.
 #[cycle(statements)]
 fn push_statement<'b, E: Env>(
@@ -71,9 +81,15 @@ fn push_statement<'b, E: Env>(
 {
     match s {
         Statement::Empty { .. } => Ok(()),
-        Statement::Assignment { target, value, .. } => {
+        Statement::Assignment {
+            target,
+            value,
+            delay,
+            ..
+        } => {
             push_target(list, target, here)?;
-            push_mentions(list, value, here, false)
+            push_mentions(list, value, here, false)?;
+            push_delay(list, delay, here)
         }
         Statement::If {
             condition,

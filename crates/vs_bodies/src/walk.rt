@@ -62,8 +62,9 @@ pub(crate) fn walk<'b, S: Surroundings>(
             target,
             value,
             blocking,
+            delay,
         } => {
-            let said = assignment_told(alloc, target, value, *blocking, how.kind, here)?;
+            let said = assignment_told(alloc, target, value, *blocking, delay, how.kind, here)?;
             counted(how.in_loop, left, said)
         }
         Statement::If {

@@ -12,6 +12,7 @@ use Rattle.vs_const.specs.declared.rules.Rule.TheVariants.{LoopTurns, FunctionRu
 use Rattle.vs_const.specs.Faults.{fault}
 use Rattle.vs_const.specs.Meanings.{Find, turning}
 use Rattle.vs_const.specs.Typed.{Typed}
+use Rattle.vs_const.specs.Delays.{delay_of}
 use Rattle.vs_const.specs.Expressions.{typed, constant, is_clean}
 use Rattle.vs_const.proofs.Formed.{both_nil, no_fault}
 use Rattle.vs_elaborated.specs.Targets.{typed_target}
@@ -84,8 +85,8 @@ loop_blocking body copy each head find h = of (is_clean fs) h
 mutual
   statement_blocking : (s : tree.Statement) (body : Within) (find : Find) → body.in_function ≡ true → (typed_statement s body find).faults ≡ [] → IsBlocking (typed_statement s body find).statement
   statement_blocking (tree.Empty place) body find e h = refl
-  statement_blocking (tree.Assignment target x blocking) body find e h =
-      let others = word_faults body.clocked target find ++ ((typed_target target find true).faults ++ (typed x find false).faults) in
+  statement_blocking (tree.Assignment target x blocking delay) body find e h =
+      let others = word_faults body.clocked target find ++ ((typed_target target find true).faults ++ ((typed x find false).faults ++ (delay_of find delay).faults)) in
       let n = both_nil (delayed_faults body (target_place target) blocking) others h in
       kept (target_place target) body.in_function blocking e (no_fault (body.in_function && not blocking) FunctionRule (target_place target) n.0)
   statement_blocking (tree.If place c taken other) body find e h =

@@ -137,9 +137,9 @@ first_is x y xs ys e = cc
 rest_is : {A : Type 0} (x y : A) (xs ys : List A) → x ∷ xs ≡ y ∷ ys → xs ≡ ys
 rest_is x y xs ys e = cc
 
-pub assignment_step : (a : Arena) (rs bs : List ℕ) (v : Growing) (len n x y : ℕ) (blocking : Bool) (at : ℕ) → IsGrowing a rs bs → (let w : Growing = record { arena = a; roots = rs; bodies = bs } in w) ≡ v → EndsInAssignment (draft v)
-    → len ≡ length rs → n ≡ length bs → x ≡ get_or rs (len - 2) x → y ≡ get_or rs (len - 1) y → IsBodyStep a rs bs (take (len - 2) rs) (x ∷ y ∷ []) (take n bs) [] (S.Assign x y blocking) at
-assignment_step a rs bs v len n x y blocking at g view h e o f k =
+pub assignment_step : (a : Arena) (rs bs : List ℕ) (v : Growing) (len n x y : ℕ) (blocking : Bool) (delay at : ℕ) → IsGrowing a rs bs → (let w : Growing = record { arena = a; roots = rs; bodies = bs } in w) ≡ v → EndsInAssignment (draft v)
+    → len ≡ length rs → n ≡ length bs → x ≡ get_or rs (len - 2) x → y ≡ get_or rs (len - 1) y → IsBodyStep a rs bs (take (len - 2) rs) (x ∷ y ∷ []) (take n bs) [] (S.Assign x y blocking delay) at
+assignment_step a rs bs v len n x y blocking delay at g view h e o f k =
     let is : rs ≡ take (len - 2) rs ++ x ∷ y ∷ [] =
     last_two rs x y (assignment_enough a rs bs v view h) (f ∙ ap (λ n. get_or rs (n - 2) x) e) (k ∙ ap (λ n. get_or rs (n - 1) y) e) ∙ ap (λ n. take (n - 2) rs ++ x ∷ y ∷ []) (sym e)
     in
@@ -162,15 +162,15 @@ assignment_step a rs bs v len n x y blocking at g view h e o f k =
       low = l.low;
     }
 
-pub assignment_adds : {U F : Type 0} (r : Result U F) (a b : Arena) (rs after rest bs bodies brest : List ℕ) (v : Growing) (x y : ℕ) (blocking : Bool) (at : ℕ) (s : Draft) (t u : E.Expression) (m : ℕ)
-    → IsBodyStep a rs bs rest (x ∷ y ∷ []) brest [] (S.Assign x y blocking) at → IsBodyAdded r a b rs after rest bs bodies brest (S.Assign x y blocking) at
-    → (let w : Growing = record { arena = a; roots = rs; bodies = bs } in w) ≡ v → Adds s (draft v) (t ∷ u ∷ []) [] m → OnOk r (AddsStatement s (draft_of b after bodies) (T.Assignment at (target_tree t) u blocking) (1 + m))
-assignment_adds r a b rs after rest bs bodies brest v x y blocking at s t u m p d view h =
+pub assignment_adds : {U F : Type 0} (r : Result U F) (a b : Arena) (rs after rest bs bodies brest : List ℕ) (v : Growing) (x y : ℕ) (blocking : Bool) (delay at : ℕ) (s : Draft) (t u : E.Expression) (m : ℕ)
+    → IsBodyStep a rs bs rest (x ∷ y ∷ []) brest [] (S.Assign x y blocking delay) at → IsBodyAdded r a b rs after rest bs bodies brest (S.Assign x y blocking delay) at
+    → (let w : Growing = record { arena = a; roots = rs; bodies = bs } in w) ≡ v → Adds s (draft v) (t ∷ u ∷ []) [] m → OnOk r (AddsStatement s (draft_of b after bodies) (T.Assignment at (target_tree t) u blocking delay) (1 + m))
+assignment_adds r a b rs after rest bs bodies brest v x y blocking delay at s t u m p d view h =
     let l = are_last a rs bs rest (x ∷ y ∷ []) brest [] s (t ∷ u ∷ []) [] m p.roots p.bodies (adds_in a rs bs v s (t ∷ u ∷ []) [] m view h) refl refl in
     let first : tree_at (arena_trees a) x ≡ t = first_is (tree_at (arena_trees a) x) t (tree_at (arena_trees a) y ∷ []) (u ∷ []) l.expressions in
     let second : tree_at (arena_trees a) y ≡ u = first_is (tree_at (arena_trees a) y) u [] [] (rest_is (tree_at (arena_trees a) x) t (tree_at (arena_trees a) y ∷ []) (u ∷ []) l.expressions) in
-    body_adds r a b rs after rest (x ∷ y ∷ []) bs bodies brest [] (S.Assign x y blocking) at s (T.Assignment at (target_tree t) u blocking) m p d l.before
-    (ap (λ z. T.Assignment at (target_tree z) (tree_at (arena_trees a) y) blocking) first ∙ ap (λ z. T.Assignment at (target_tree t) z blocking) second) l.few l.low
+    body_adds r a b rs after rest (x ∷ y ∷ []) bs bodies brest [] (S.Assign x y blocking delay) at s (T.Assignment at (target_tree t) u blocking delay) m p d l.before
+    (ap (λ z. T.Assignment at (target_tree z) (tree_at (arena_trees a) y) blocking delay) first ∙ ap (λ z. T.Assignment at (target_tree t) z blocking delay) second) l.few l.low
 
 -- ---- conditionals
 

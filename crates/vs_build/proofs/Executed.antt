@@ -14,7 +14,7 @@ use Rattle.vs_design.specs.Designs.{Design}
 use Rattle.vs_design.specs.Footprints.{is_variable}
 use Rattle.vs_grammar.specs.Trees as tree
 use Rattle.vs_grammar.specs.Trees.{target_place}
-use Rattle.vs_grammar.specs.Shapes.{IsExpr, IsTarget, ArePartsOfTarget, IsStatement, IsFallback, AreStatements, AreArms, Each, OneOrMore}
+use Rattle.vs_grammar.specs.Shapes.{Given, IsExpr, IsTarget, ArePartsOfTarget, IsStatement, IsFallback, AreStatements, AreArms, Each, OneOrMore}
 use Rattle.vs_grammar.specs.Depths.{deepest, option_depth, scope_depth, expr_depth, target_depth, statement_depth, fallback_depth, statements_depth, arms_depth}
 use Rattle.vs_ast.specs.declared.expressions.Expr.{Expr}
 use Rattle.vs_ast.specs.declared.statements.Statement.{Statement, If, Case, Sequence, For, the_lemmas}
@@ -30,6 +30,7 @@ use Rattle.vs_const.specs.Meanings.{SignalMeaning, Meaning, AValue, Undefined, A
 use Rattle.vs_const.specs.Sound.{IsSound, AreSound}
 use Rattle.vs_const.specs.Typed.{Typed, natural}
 use Rattle.vs_const.specs.Selects.{is_scalar, Taken, taken, slice_taken, first_needed, first_names, word_range, is_array, in_array, addressed_in, addressed}
+use Rattle.vs_const.specs.Delays.{delay_of}
 use Rattle.vs_const.specs.Expressions.{typed, taken_by}
 use Rattle.vs_const.proofs.Formed.{both_nil, no_fault}
 use Rattle.vs_const.specs.declared.faults.Fault.{Fault}
@@ -37,7 +38,7 @@ use Rattle.vs_const.specs.Faults.{fault_if}
 use Rattle.vs_flat.specs.Trees.{no_signal, target_tree, sequence}
 use Rattle.vs_elaborated.specs.Numbers.{IsNumbered, AreNumbered}
 use Rattle.vs_elaborated.specs.Targets.{meant_signal, TypedTarget, is_wrong_target, target_rule, target_base, bit_target, further_target, selected_target, typed_target, typed_targets}
-use Rattle.vs_elaborated.specs.Statements.{Body as Within, TypedStatement, Local, find_local, local_or, delayed_faults, word_faults, scope_locals, local_faults, scoped, not_there, typed_list, typed_fallback, typed_statement, typed_sequence, typed_arms}
+use Rattle.vs_elaborated.specs.Statements.{Body as Within, TypedStatement, units, Local, find_local, local_or, delayed_faults, word_faults, scope_locals, local_faults, scoped, not_there, typed_list, typed_fallback, typed_statement, typed_sequence, typed_arms}
 use Rattle.vs_build.specs.Drafts.{Root, Body, Draft, home, and_roots, and_bodies, most_body_levels, AddsExpression, AddsParts, AddsStatement, Adds, EndsInParts, EndsInAssignment, writes_variables, Labelled, total, arms_with, EndsInCase}
 use Rattle.vs_build.specs.Cut.{label_counts}
 use Rattle.vs_build.specs.Buildable.{IsBuildable, IsNameable, part_expressions, memory_of}
@@ -216,18 +217,21 @@ mutual
       let n = both_nil (typed_target t find true).faults (typed_targets (tree.AndTarget u rest) find true).faults h in
       both_true (writes_variables (typed_target t find true).target) (writes_variables (typed_targets (tree.AndTarget u rest) find true).target) (variables_written d find t x.0 sound n.0) (all_variables d find (tree.AndTarget u rest) x.1 sound n.1)
 
-pub record IsAssigning (d : Design) (find : Find) (t : tree.Target) (e : tree.Expr) : Type 0 where
+pub record IsAssigning (d : Design) (find : Find) (t : tree.Target) (e : tree.Expr) (delay : Option tree.Expr) : Type 0 where
   pub target_is : IsWritable d find true t
   pub value_is : IsBuildable d find false e
+  pub delay_is : Given IsExpr delay
 
-pub assigning : (d : Design) (around : Within) (find : Find) (t : tree.Target) (e : tree.Expr) (blocking : Bool) → IsExecutable d around find (tree.Assignment t e blocking) → IsAssigning d find t e
-assigning d around find t e blocking x =
-    let own = (typed_target t find true).faults ++ (typed e find false).faults in
+pub assigning : (d : Design) (around : Within) (find : Find) (t : tree.Target) (e : tree.Expr) (blocking : Bool) (delay : Option tree.Expr) → IsExecutable d around find (tree.Assignment t e blocking delay) → IsAssigning d find t e delay
+assigning d around find t e blocking delay x =
+    let last = (typed e find false).faults ++ (delay_of find delay).faults in
+    let own = (typed_target t find true).faults ++ last in
     let words = word_faults around.clocked t find in
-    let n = both_nil (typed_target t find true).faults (typed e find false).faults (both_nil words own (both_nil (delayed_faults around (target_place t) blocking) (words ++ own) x.clean).1).1 in
+    let n = both_nil (typed_target t find true).faults last (both_nil words own (both_nil (delayed_faults around (target_place t) blocking) (words ++ own) x.clean).1).1 in
     record {
       target_is = record { shaped = x.shaped.0; sound = x.sound; numbered = x.numbered; clean = n.0; shallow = omega (arith, x.shallow) };
-      value_is = record { shaped = x.shaped.1; sound = x.sound; numbered = x.numbered; clean = n.1; shallow = omega (arith, x.shallow) };
+      value_is = record { shaped = x.shaped.1; sound = x.sound; numbered = x.numbered; clean = (both_nil (typed e find false).faults (delay_of find delay).faults n.1).0; shallow = omega (arith, x.shallow) };
+      delay_is = x.shaped.2;
     }
 
 -- the name of a variable alone
@@ -253,16 +257,17 @@ assignment_ends s r v find t u m n w h g le less = record {
   variables = ap writes_variables (target_tree_is (home s) find t w) ∙ variables_written (home s) find t w.shaped w.sound w.clean;
 }
 
-pub assignment_arm : {U F : Type 0} (r : Result U F) (s q v new : Draft) (around : Within) (find : Find) (t : tree.Target) (e : tree.Expr) (blocking : Bool) (at : ℕ) → at ≡ target_place t → IsWritable (home s) find true t
-    → AddsExpression s q (target_expression t find true) (1 + target_depth t) → AddsExpression q v (typed e find false).expression (1 + expr_depth e)
-    → ((w : Draft) (x y : E.Expression) (m : ℕ) → Adds w v (x ∷ y ∷ []) [] m → OnOk r (AddsStatement w new (T.Assignment at (target_tree x) y blocking) (1 + m)))
-    → OnOk r (AddsStatement s new (typed_statement (tree.Assignment t e blocking) around find).statement (1 + statement_depth (tree.Assignment t e blocking)))
-assignment_arm r s q v new around find t e blocking at place w h g f =
+pub assignment_arm : {U F : Type 0} (r : Result U F) (s q v new : Draft) (around : Within) (find : Find) (t : tree.Target) (e : tree.Expr) (blocking : Bool) (delay : Option tree.Expr) (n at : ℕ) → n ≡ units (delay_of find delay).number → at ≡ target_place t
+    → IsWritable (home s) find true t → AddsExpression s q (target_expression t find true) (1 + target_depth t) → AddsExpression q v (typed e find false).expression (1 + expr_depth e)
+    → ((w : Draft) (x y : E.Expression) (m : ℕ) → Adds w v (x ∷ y ∷ []) [] m → OnOk r (AddsStatement w new (T.Assignment at (target_tree x) y blocking n) (1 + m)))
+    → OnOk r (AddsStatement s new (typed_statement (tree.Assignment t e blocking delay) around find).statement (1 + statement_depth (tree.Assignment t e blocking delay)))
+assignment_arm r s q v new around find t e blocking delay n at wait place w h g f =
     let u = (typed e find false).expression in
-    let m = 1 + max (target_depth t) (expr_depth e) in
+    let m = 1 + max (target_depth t) (max (expr_depth e) (option_depth expr_depth delay)) in
     let made = f s (target_expression t find true) u m (assigned_parts s q v (target_expression t find true) u (1 + target_depth t) (1 + expr_depth e) m h g (omega arith) (omega arith)) in
-    subst (λ n. OnOk r (AddsStatement s new (T.Assignment n (typed_target t find true).target u blocking) (1 + m))) place
-    (subst (λ x. OnOk r (AddsStatement s new (T.Assignment at x u blocking) (1 + m))) (target_tree_is (home s) find t w) made)
+    subst (λ k. OnOk r (AddsStatement s new (T.Assignment (target_place t) (typed_target t find true).target u blocking k) (1 + m))) wait
+    (subst (λ k. OnOk r (AddsStatement s new (T.Assignment k (typed_target t find true).target u blocking n) (1 + m))) place
+    (subst (λ x. OnOk r (AddsStatement s new (T.Assignment at x u blocking n) (1 + m))) (target_tree_is (home s) find t w) made))
 
 -- ---- labels
 

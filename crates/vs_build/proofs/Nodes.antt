@@ -42,11 +42,11 @@ targets_agree signals nodes statements f g (p ∷ ps) same h =
 
 assign_agrees : (nodes statements : ℕ) (f g : ℕ → E.Expression) (s : Statement) → EqualBelow nodes f g → statement_names_below nodes statements s ≡ true → assigns_target f s ≡ assigns_target g s
 assign_agrees nodes statements f g S.Empty same h = refl
-assign_agrees nodes statements f g (S.Assign target e blocking) same h =
-    ap (λ t. is_target_some t) (same target (first_below nodes target (e ∷ []) (statement_parts nodes statements (S.Assign target e blocking) h).0))
+assign_agrees nodes statements f g (S.Assign target e blocking delay) same h =
+    ap (λ t. is_target_some t) (same target (first_below nodes target (e ∷ []) (statement_parts nodes statements (S.Assign target e blocking delay) h).0))
   where
     is_target_some : E.Expression → Bool
-    is_target_some t = assigns_target (λ n. t) (S.Assign 0 0 true)
+    is_target_some t = assigns_target (λ n. t) (S.Assign 0 0 true 0)
 assign_agrees nodes statements f g (S.If c taken other) same h = refl
 assign_agrees nodes statements f g (S.Case kind of arms other) same h = refl
 assign_agrees nodes statements f g (S.Seq parts) same h = refl

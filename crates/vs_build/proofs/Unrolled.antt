@@ -42,7 +42,7 @@ loop_faulty head body b find h = of (is_clean fs) refl h
 mutual
   statement_copies : (s : tree.Statement) (b : Body) (find : Find) → (typed_statement s (kept b) find).faults ≡ [] → (typed_statement s (unrolled b) find).copies ≡ 0
   statement_copies (tree.Empty place) b find h = refl
-  statement_copies (tree.Assignment target e blocking) b find h = refl
+  statement_copies (tree.Assignment target e blocking delay) b find h = refl
   statement_copies (tree.If place c taken other) b find h =
       let s = typed_statement taken (kept b) find in
       let t = typed_fallback other (kept b) find in

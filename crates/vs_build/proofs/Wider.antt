@@ -112,7 +112,7 @@ mutual
 
   pub statement_wider : (c d : Design) → IsWider c d → (s : Statement) → is_formed_statement c s ≡ true → is_formed_statement d s ≡ true
   statement_wider c d w Empty h = refl
-  statement_wider c d w (Assignment place t e blocking) h =
+  statement_wider c d w (Assignment place t e blocking delay) h =
       both_wider (is_formed_target c is_variable t) (is_formed c e) (is_formed_target d is_variable t) (is_formed d e) (λ k. target_wider c d w t k) (λ k. expression_wider c d w e k) h
   statement_wider c d w (Then a b) h =
       both_wider (is_formed_statement c a) (is_formed_statement c b) (is_formed_statement d a) (is_formed_statement d b) (λ k. statement_wider c d w a k) (λ k. statement_wider c d w b k) h

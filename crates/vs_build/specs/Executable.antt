@@ -108,7 +108,7 @@ block_process declared b find = Always b.place (typed_control b.control find).st
 
 -- `reg name = e` is `initial name = e` (6.2.1)
 abbrev pub value_assignment : tree.Name → tree.Expr → tree.Statement
-value_assignment name e = tree.Assignment (tree.NamedTarget name tree.Whole) e true
+value_assignment name e = tree.Assignment (tree.NamedTarget name tree.Whole) e true None
 
 -- the statement of a design that a statement is in an initial block
 abbrev pub begun : tree.Statement → Find → Statement

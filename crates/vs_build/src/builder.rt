@@ -337,11 +337,16 @@ impl Builder {
         )
     }
 
-    /// Builds an assignment, blocking or not (IEEE 1364-2005, 9.2), of the last expression to the one before it.
-    pub(crate) fn assignment(&mut self, blocking: bool, at: u32) -> Result<(), AllocError>
+    /// Builds an assignment, blocking or not (IEEE 1364-2005, 9.2), of the last expression to the one before it, after so many units of time.
+    pub(crate) fn assignment(
+        &mut self,
+        blocking: bool,
+        delay: u32,
+        at: u32,
+    ) -> Result<(), AllocError>
         requires { EndsInAssignment (draft self.old) }
         ensures { (s : Draft) (t u : E.Expression) (m : ℕ) → Adds s (draft self.old) (t ∷ u ∷ []) [] m
-            → OnOk result (AddsStatement s (draft self.new) (T.Assignment at (target_tree t) u blocking) (1 + m)) }
+            → OnOk result (AddsStatement s (draft self.new) (T.Assignment at (target_tree t) u blocking delay) (1 + m)) }
     {
         let n = self.roots.len();
         let statements = self.bodies.len();
@@ -357,6 +362,7 @@ impl Builder {
                 target,
                 expr,
                 blocking,
+                delay,
             },
             at,
         )

@@ -2,10 +2,12 @@
 
 ghost use Rattle.std.specs.Prelude.{◌≡◌, ◌+◌, true, [], Some, IfOk, IfSome, length, map, flat_map, OnOk};
 ghost use Rattle.vs_grammar.specs.Depths.{deepest, expr_depth, target_depth, statement_depth, statements_depth, arms_depth};
+ghost use Rattle.vs_grammar.specs.Shapes.{Given, IsExpr};
 ghost use Rattle.vs_grammar.specs.Trees as tree;
 ghost use Rattle.vs_grammar.specs.Trees.{target_place};
 ghost use Rattle.vs_ast.specs.Views as view;
-ghost use Rattle.vs_const.specs.Meanings.{turning};
+ghost use Rattle.vs_const.specs.Delays.{delay_of};
+ghost use Rattle.vs_const.specs.Meanings.{IsFair, turning};
 ghost use Rattle.vs_const.specs.Expressions.{constant};
 ghost use Rattle.vs_elaborated.specs.Statements as spec;
 ghost use Rattle.vs_elaborated.specs.Statements.{typed_list, typed_statement};
@@ -22,7 +24,7 @@ use crate::targets::target;
 use std::alloc::{AllocError, Global};
 use vs_ast::{BlockScope, CaseArm, Expr, LoopHead, Statement, Target};
 use vs_bodies::{BodyKind, Inner, Layers, Surroundings, block_of, in_block, in_turn};
-use vs_const::Env;
+use vs_const::{Env, delay};
 use vs_four::Bits;
 
 /// The most turns of one loop.
@@ -38,6 +40,19 @@ fn target_at(t: &Target) -> u32
     }
 }
 
+/// The delay of an assignment in units of time (IEEE 1364-2005, 9.7.7); 0 where a fault leaves it undefined.
+fn units<E: Env>(alloc: Global, e: &Option<Expr>, env: &E) -> Result<u32, AllocError>
+    requires shaped { Given IsExpr (view.option view.expr e.now) }
+    requires fair { IsFair (E.names env.now) }
+    ensures { IfOk result (λ n. n ≡ spec.units (delay_of (E.names env.now) (view.option view.expr e.now)).number) }
+{
+    let found = delay(alloc, e, env)?;
+    match found.number {
+        None => Ok(0),
+        Some(n) => Ok(n),
+    }
+}
+
 /// Builds an assignment that breaks no rule (IEEE 1364-2005, 9.2).
 fn assignment<'b, S: Surroundings>(
     builder: &mut Builder,
@@ -45,16 +60,18 @@ fn assignment<'b, S: Surroundings>(
     t: &'b Target,
     value: &'b Expr,
     blocking: bool,
+    after: &'b Option<Expr>,
     kind: BodyKind,
     here: &Inner<'_, 'b, S>,
 ) -> Result<(), AllocError>
-    requires { IsExecutable (home (draft builder.old)) (body_of kind true (S.declared here.now.around.now)) (within (S.declared here.now.around.now) here.now.layers.now (S.names here.now.around.now)) (tree.Assignment (view.target t.now) (view.expr value.now) blocking) }
-    ensures { OnOk result (AddsStatement (draft builder.old) (draft builder.new) (typed_statement (tree.Assignment (view.target t.now) (view.expr value.now) blocking) (body_of kind true (S.declared here.now.around.now)) (within (S.declared here.now.around.now) here.now.layers.now (S.names here.now.around.now))).statement
-        (1 + statement_depth (tree.Assignment (view.target t.now) (view.expr value.now) blocking))) }
+    requires { IsExecutable (home (draft builder.old)) (body_of kind true (S.declared here.now.around.now)) (within (S.declared here.now.around.now) here.now.layers.now (S.names here.now.around.now)) (tree.Assignment (view.target t.now) (view.expr value.now) blocking (view.option view.expr after.now)) }
+    ensures { OnOk result (AddsStatement (draft builder.old) (draft builder.new) (typed_statement (tree.Assignment (view.target t.now) (view.expr value.now) blocking (view.option view.expr after.now)) (body_of kind true (S.declared here.now.around.now)) (within (S.declared here.now.around.now) here.now.layers.now (S.names here.now.around.now))).statement
+        (1 + statement_depth (tree.Assignment (view.target t.now) (view.expr value.now) blocking (view.option view.expr after.now)))) }
 {
     target(builder, alloc, t, here, true)?;
     operand(builder, alloc, value, here, false)?;
-    builder.assignment(blocking, target_at(t))
+    let delay = units(alloc, after, here)?;
+    builder.assignment(blocking, delay, target_at(t))
 }
 
 /// Builds the labels of an arm, one after the other (IEEE 1364-2005, 9.5).
@@ -91,7 +108,8 @@ pub(crate) fn statement<'b, S: Surroundings>(
             target,
             value,
             blocking,
-        } => assignment(builder, alloc, target, value, *blocking, kind, here),
+            delay,
+        } => assignment(builder, alloc, target, value, *blocking, delay, kind, here),
         Statement::If {
             place,
             condition,

@@ -28,7 +28,7 @@ fn assigned<E: Env>(
 {
     name_alone(builder, false, name, name.place, env)?;
     operand(builder, alloc, e, env, false)?;
-    builder.assignment(true, name.place)
+    builder.assignment(true, 0, name.place)
 }
 
 /// Builds `reg name = e`, which breaks no rule: the initial process `name = e`, behind the processes so far. An error is want of memory; the builder is of

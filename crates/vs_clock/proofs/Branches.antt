@@ -41,7 +41,7 @@ other_statements f (x ∷ y ∷ xs) edge b l = refl
 pub no_statements : (tree : ℕ → Expression) (body : ℕ → T.Statement) (place : ℕ) (i : Statement) (edge : Edge) (b : ℕ) → ((c taken : ℕ) (other : Option ℕ) → i ≡ S.If c taken other → ⊥) → ((parts : List ℕ) → i ≡ S.Seq parts → ⊥)
     → None ≡ if_branch edge b (statement_tree tree body place i)
 no_statements tree body place S.Empty edge b h k = refl
-no_statements tree body place (S.Assign target e blocking) edge b h k = refl
+no_statements tree body place (S.Assign target e blocking delay) edge b h k = refl
 no_statements tree body place (S.If c taken other) edge b h k = absurd (h c taken other refl)
 no_statements tree body place (S.Case kind of arms other) edge b h k = refl
 no_statements tree body place (S.Seq parts) edge b h k = absurd (k parts refl)
@@ -65,14 +65,14 @@ branch_of_if P edge b c taken other t h f = by_test (is_condition edge b c) (λ 
 
 pub branch_is : (edge : Edge) (b : ℕ) (s t : T.Statement) → Some t ≡ if_branch edge b s → (if is_fixed t then Some t else None) ≡ reset_branch edge b s
 branch_is edge b T.Empty t h = cc
-branch_is edge b (T.Assignment place target e blocking) t h = cc
+branch_is edge b (T.Assignment place target e blocking delay) t h = cc
 branch_is edge b (T.Then first rest) t h = cc
 branch_is edge b (T.If c taken other) t h = let P : T.Statement → Type 0 = λ t. (if is_fixed t then Some t else None) ≡ reset_branch edge b (T.If c taken other) in branch_of_if P edge b c taken other t (sym h) (λ e. sym (ap (λ z. if z && is_fixed taken then Some taken else None) e))
 branch_is edge b (T.Case kind subject arms) t h = cc
 
 pub branch_none : (edge : Edge) (b : ℕ) (s : T.Statement) → None ≡ if_branch edge b s → None ≡ reset_branch edge b s
 branch_none edge b T.Empty h = refl
-branch_none edge b (T.Assignment place target e blocking) h = refl
+branch_none edge b (T.Assignment place target e blocking delay) h = refl
 branch_none edge b (T.Then first rest) h = refl
 branch_none edge b (T.If c taken other) h = go (is_condition edge b c) (is_fixed taken) h
   where

@@ -6,7 +6,7 @@ use Rattle.vs_four.specs.declared.Bit4.TheVariants.{X}
 use Rattle.vs_four.specs.Lengths.{extend}
 use Rattle.vs_four.specs.Logic.{BitList}
 use Rattle.vs_base.specs.Applied.{HasLengths}
-use Rattle.vs_design.specs.Expressions.{Signal, signal_length, BinaryOp, Equal, CaseEqual, Expression, Name, Binary, At, width, sign, is_constant}
+use Rattle.vs_design.specs.Expressions.{Signal, signal_length, BinaryOp, Equal, CaseEqual, Expression, Name, At, width, is_constant}
 use Rattle.vs_design.specs.Values.{count_from, value}
 use Rattle.vs_design.specs.Clocks.{name_of}
 use Rattle.vs_design.specs.Resets.{is_equality, beside_constant, alone}

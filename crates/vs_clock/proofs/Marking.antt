@@ -1,5 +1,5 @@
 -- Marks and labels of bits, by which dead nets are found.
-use Rattle.std.proofs.Common.{◌≡◌, ℕ, zero, suc, ◌+◌, ◌≤◌, ◌<◌, Bool, true, false, not, ◌&&◌, ◌||◌, ◌==◌, cond, List, [], ◌∷◌, ◌++◌, map, filter, set, take, replicate, length, length-append, get_or, get_or-set_same, get_or-set_other, refl, sym, ap, ap₂, ◌∙◌, subst, eqb-true, eq-eqb, arith, Some, None, Option, Result, Ok, Err, Vec, Global, if◌then◌else◌, ◌≢◌}
+use Rattle.std.proofs.Common.{◌≡◌, ℕ, zero, suc, ◌+◌, ◌≤◌, ◌<◌, Bool, true, false, not, ◌&&◌, ◌||◌, ◌==◌, List, [], ◌∷◌, ◌++◌, map, filter, set, take, replicate, length, get_or, get_or-set_same, get_or-set_other, refl, sym, ap, ap₂, ◌∙◌, subst, eqb-true, eq-eqb, arith, Some, None, Option, Result, Vec, Global, if◌then◌else◌, ◌≢◌}
 use Rattle.std.specs.Prelude.{slice_get, IfOk}
 use Rattle.std.specs.List.{filter_map, cons_option, list_all, list_any}
 use Rattle.std.proofs.lemmas.List.{length-set, length-replicate, take_more, take_all}
@@ -26,10 +26,8 @@ use Rattle.vs_flat.specs.Laws.{EachProcess}
 use Rattle.vs_flat.specs.DesignOf.{arena_signals, design_of, event_of}
 use Rattle.vs_reads.proofs.ByKind.{kind_in, kind_is, process_same}
 use Rattle.vs_reads.proofs.Tests.{by_test, either_way, and_both, and_true, contains_more}
-use Rattle.vs_clock.specs.Dead.{IsMarkedBy, IsLabelledBy, net_bit, unmarked, unmarked_bit, is_labelled_edge, is_labelled_block}
-use Rattle.vs_clock.specs.Ports.{one_bit}
+use Rattle.vs_clock.specs.Dead.{IsMarkedBy, IsLabelledBy, unmarked, unmarked_bit, is_labelled_edge, is_labelled_block}
 use Rattle.vs_clock.specs.Roots.{AreAllTargets, AreRoots}
-use Rattle.vs_clock.specs.Spread.{has_label}
 use Rattle.vs_clock.proofs.Finding.{filter_map_snoc, one_made, none_made, append_nil, among_filter, bit_below}
 use Rattle.vs_clock.proofs.Ruled.{events_same}
 use Rattle.vs_clock.proofs.Spared.{own_labels}

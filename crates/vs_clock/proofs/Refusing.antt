@@ -1,18 +1,15 @@
 -- The refusal of a design by its clocks.
-use Rattle.std.proofs.Common.{◌≡◌, ℕ, zero, suc, ◌+◌, ◌<◌, ◌≤◌, Bool, true, false, List, [], ◌∷◌, ◌&&◌, ◌==◌, refl, sym, ap, ◌∙◌, subst, eqb-true, length, map, arith, Some, None, Option, find, if◌then◌else◌, ◌||◌, inl, inr, Result, Ok, Err}
+use Rattle.std.proofs.Common.{◌≡◌, ℕ, zero, suc, ◌+◌, ◌<◌, Bool, true, false, List, [], ◌∷◌, ◌&&◌, ◌==◌, refl, sym, ap, ◌∙◌, subst, eqb-true, length, map, arith, Some, None, Option, find, if◌then◌else◌, ◌||◌, inl, inr, Result, Ok, Err}
 use Rattle.std.specs.Prelude.{slice_get}
-use Rattle.std.proofs.lemmas.Option.{slice_get_within, slice_get-get_or}
+use Rattle.std.proofs.lemmas.Option.{slice_get_within}
 use Rattle.vs_design.specs.Expressions.{Signal, signal_length}
 use Rattle.vs_design.specs.Designs.{Process, process_place, Design, bit_count}
 use Rattle.vs_design.specs.Clocks.{same_name, named_input, spare_clock, and_inputs, named_inputs, clock_inputs, clock_bits, clock_nets, root_of, reads_clock, has_other_clock}
 use Rattle.vs_design.specs.Resets.{has_other_form}
 use Rattle.vs_design.specs.Elaborated.{IsLawfulDesign}
 use Rattle.vs_design.specs.Refusals.{otherwise, first_found, where_true, place_at, ClockRefusal, NoClock, ClockRead, NotTheClock, ResetForm, clock_refusal_by, clock_refusal}
-use Rattle.vs_flat.specs.declared.processes.Signal.{Signal as FlatSignal}
 use Rattle.vs_flat.specs.Arena.{Arena}
-use Rattle.vs_flat.specs.Laws.{EachSignal, CountsStay}
-use Rattle.vs_flat.specs.Trees.{no_signal, signal_at}
-use Rattle.vs_flat.specs.DesignOf.{arena_signals, design_of}
+use Rattle.vs_flat.specs.DesignOf.{design_of}
 use Rattle.std.specs.Prelude.{IfOk, MatchOption}
 use Rattle.vs_clock.specs.declared.inputs.ClockInputs.{ClockInputs}
 use Rattle.vs_clock.specs.Tests.{IsFirst}
@@ -23,7 +20,6 @@ use Rattle.std.specs.List.{list_any}
 use Rattle.vs_reads.proofs.Tests.{by_test, and_both}
 use Rattle.vs_reads.proofs.Numbered.{place_is}
 use Rattle.vs_clock.proofs.Finding.{bit_below}
-use Rattle.vs_clock.proofs.Ruled.{first_bit_is}
 
 -- what is found first
 abbrev found : (ℕ → ℕ → ClockRefusal) → (Process → Bool) → ℕ → List Process → Option ClockRefusal

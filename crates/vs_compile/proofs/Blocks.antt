@@ -188,7 +188,7 @@ has_branch d clocks (Always place star events s) r t h k = by_events (events_of 
     by_statement : (e : Event) (i : Option ℕ) (s : Statement) → list_any has_edge events ≡ true → reset_branch e.edge e.signal.first s ≡ Some t → reset_with e i (reset_branch e.edge e.signal.first s) ≡ Some r
         → HasBranch (Always place star events s) r.edge t
     by_statement e i Empty clocked k h = cc
-    by_statement e i (Assignment at target a blocking) clocked k h = cc
+    by_statement e i (Assignment at target a blocking delay) clocked k h = cc
     by_statement e i (Then first rest) clocked k h = cc
     by_statement e i (Case kind subject arms) clocked k h = cc
     by_statement e i (If c taken other) clocked k h = at (is_condition e.edge e.signal.first c && is_fixed taken) refl k where

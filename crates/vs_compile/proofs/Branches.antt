@@ -1,5 +1,5 @@
 -- What the reset of an accepted design's block is, and what its lowering needs.
-use Rattle.std.proofs.Common.{◌≡◌, ℕ, ◌+◌, ◌<◌, ◌≤◌, ◌^◌, Bool, true, false, ◌&&◌, List, [], ◌∷◌, ◌++◌, if◌then◌else◌, length, Option, Some, slice_get, refl, sym, ap, ◌∙◌, subst, arith, zero, suc, sum_by}
+use Rattle.std.proofs.Common.{◌≡◌, ℕ, ◌+◌, ◌<◌, ◌≤◌, ◌^◌, Bool, true, ◌&&◌, List, [], ◌∷◌, ◌++◌, if◌then◌else◌, length, Option, Some, slice_get, refl, sym, ap, ◌∙◌, subst, arith, zero, suc, sum_by}
 use Rattle.vs_net.specs.Network as N
 use Rattle.vs_design.specs.Designs.{Edge, Any, Posedge, Negedge, Process, Always, Design, bit_count}
 use Rattle.vs_design.specs.Fits.{is_fit, fits_statement, fits_process}

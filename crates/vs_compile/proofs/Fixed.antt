@@ -4,7 +4,7 @@ use Rattle.vs_four.specs.declared.Bit4.TheVariants.{X}
 use Rattle.vs_net.specs.Network.{State, Effect, Write, Update}
 use Rattle.vs_design.specs.Expressions.{Signal, OfSignal, OfConstant, Expression, Literal, Name, Select, Word, WordPart, Unary, Binary, Choice, Join, Repeat, At, Call, Items, NoItem, Item}
 use Rattle.vs_design.specs.Statements.{Target, Whole, PartOf, WordOf, WordPartOf, Both, Statement, Empty, Assignment, Then, If, Case, Arms, Arm, Default}
-use Rattle.vs_design.specs.Bodies.{body}
+use Rattle.vs_design.specs.Bodies.{body, updates_in}
 use Rattle.vs_design.specs.Footprints.{contains, read_bits, read_signals, target_reads, target_signals, items_reads, items_signals, statement_reads, statement_signals, arms_reads, arms_signals}
 use Rattle.vs_design.specs.Calls.{statement_calls}
 use Rattle.vs_design.specs.Resets.{has_none, are_constant, branch_writes, branch_updates, is_fixed}
@@ -60,7 +60,7 @@ indices_read (Both high low) h =
 mutual
   statement_read : (s : Statement) → has_none (statement_signals s) ≡ true → statement_reads s ≡ []
   statement_read Empty h = refl
-  statement_read (Assignment place target e blocking) h =
+  statement_read (Assignment place target e blocking delay) h =
       both_empty (target_reads target) (read_bits e) (indices_read target (none_left (target_signals target) (read_signals e) h)) (expression_reads e (none_right (target_signals target) (read_signals e) h))
   statement_read (Then first rest) h =
       both_empty (statement_reads first) (statement_reads rest) (statement_read first (none_left (statement_signals first) (statement_signals rest) h)) (statement_read rest (none_right (statement_signals first) (statement_signals rest) h))
@@ -87,5 +87,5 @@ same_body law s h state =
 pub fixed_writes : BodyReads → (s : Statement) → is_fixed s ≡ true → (state : State) → (body s state).writes ≡ branch_writes s
 fixed_writes law s h state = ap {B = List Write} (λ (x : Effect). x.writes) (same_body law s h state)
 
-pub fixed_updates : BodyReads → (s : Statement) → is_fixed s ≡ true → (state : State) → (body s state).updates ≡ branch_updates s
-fixed_updates law s h state = ap {B = List Update} (λ (x : Effect). x.updates) (same_body law s h state)
+pub fixed_updates : BodyReads → (s : Statement) → is_fixed s ≡ true → (state : State) → updates_in (body s state) ≡ branch_updates s
+fixed_updates law s h state = ap {B = List Update} updates_in (same_body law s h state)

@@ -32,7 +32,7 @@ abbrev mutual
 
   pub calls_in : Statement → ℕ
   calls_in Empty = 0
-  calls_in (Assignment place target e blocking) = max (target_depth target) (call_depth e)
+  calls_in (Assignment place target e blocking delay) = max (target_depth target) (call_depth e)
   calls_in (Then first rest) = max (calls_in first) (calls_in rest)
   calls_in (If c taken other) = max (call_depth c) (max (calls_in taken) (calls_in other))
   calls_in (Case kind subject arms) = max (call_depth subject) (arms_depth arms)

@@ -11,6 +11,7 @@ use Rattle.vs_grammar.specs.Trees.{Expr, NoExpr, AndExpr, Whole, BitAt, Slice, O
 use Rattle.vs_const.specs.declared.faults.Fault.{Fault}
 use Rattle.vs_const.specs.Meanings.{ConstantValue, SignalMeaning, Meaning, AValue, Undefined, ASignal, AMemory, AFunction, Incomplete, Another, Barred, Unknown, Find, InModule, turn_value}
 use Rattle.vs_const.specs.Expressions.{typed}
+use Rattle.vs_const.specs.Delays.{delay_of}
 use Rattle.vs_const.specs.Mentions.{mentions, unheard_faults}
 use Rattle.vs_const.specs.Constants.{constant_answer, number_answer}
 use Rattle.vs_const.specs.Faults.{Rule, BadRange, NotConstant, UnknownConstant, UnknownName, WrongKind, LoopVariable, FunctionRule, Recursion, least}
@@ -242,6 +243,18 @@ pub record ConstantsComputed : Type 0 where
   -- `{p, 1}`, and `{p, (1)}` at the bracket
   pub no_size : constant_answer (two 0 (p 1) (plain 3 1)) names None ≡ breaks WrongKind 3
   pub no_size_in_brackets : constant_answer (two 0 (p 1) (tree.Brackets 3 (plain 4 1))) names None ≡ breaks WrongKind 4
+  -- ---- delays
+
+  -- none, `#p`, `#i` within the loop, and `#1000000`; but `#1000001`, `#v`, `#f(p)`, `#1'bx` and `#-1`
+  pub no_delay : (delay_of names None).number ≡ Some 0
+  pub delay : (delay_of names (Some (p 1))).number ≡ Some 9
+  pub turn_delay : (delay_of names (Some (turn 1))).number ≡ Some 2
+  pub most_delay : (delay_of names (Some (plain 1 1000000))).number ≡ Some 1000000
+  pub delay_over : least (delay_of names (Some (plain 1 1000001))).faults ≡ Some (record { rule = BadRange; place = 1 })
+  pub delay_of_signal : least (delay_of names (Some (v 1))).faults ≡ Some (record { rule = NotConstant; place = 1 })
+  pub delay_of_call : least (delay_of names (Some (call_1 1 102 (p 3)))).faults ≡ Some (record { rule = NotConstant; place = 1 })
+  pub unknown_delay : least (delay_of names (Some (lit 1 (X ∷ [])))).faults ≡ Some (record { rule = UnknownConstant; place = 1 })
+  pub negative_delay : least (delay_of names (Some (tree.Brackets 1 (tree.Unary 2 tree.Minus (plain 3 1))))).faults ≡ Some (record { rule = BadRange; place = 1 })
   -- ---- of several the one at the least place, there the one with the least number
 
   -- `u + v` and `v + u`

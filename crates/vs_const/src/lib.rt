@@ -5,6 +5,7 @@
 mod calls;
 mod checks;
 mod constants;
+mod delays;
 mod error;
 mod faults;
 mod forms;
@@ -23,6 +24,7 @@ pub use checks::{
     place_of,
 };
 pub use constants::{constant, number};
+pub use delays::delay;
 pub use error::ConstError;
 pub use faults::{
     Fault, Flaws, both, comes_before, fault_at, fault_if, first_of, flaw, flaw_if, flawless,

@@ -13,7 +13,7 @@ use Rattle.vs_design.specs.Footprints.{contains, writes_of}
 use Rattle.vs_design.specs.Fits.{fits_initial}
 use Rattle.vs_design.specs.Rules.{written_bits}
 use Rattle.vs_design.specs.Races.{at_once_bits, blocking_bits, nonblocking_bits}
-use Rattle.vs_design.specs.Initials.{initial_writes, initial_updates, initial_bits, sole_bits, starters, settled_bits, stirring_bits, late_bits, clashes, clashed_bits, first_value, start_value, IsOrderOf}
+use Rattle.vs_design.specs.Initials.{initial_writes, initial_updates, initial_bits, sole_bits, starters, settled_bits, stirring_bits, late_bits, early_bits, is_late_start, clashes, clashed_bits, first_value, start_value, IsOrderOf}
 use Rattle.vs_design.specs.Clocks.{clock_bits}
 use Rattle.vs_design.specs.Networks.{process_of, block_process, all_processes, kept_bits, updates_to, network_in, network_of}
 use Rattle.vs_design.specs.Accepted.{IsAcceptedDesign}
@@ -65,7 +65,7 @@ module _ (d : Design) (names : List (List ℕ)) (a : IsAcceptedDesign d names) w
   one_start : (b : ℕ) → how_many d.initials b ≤ 1
   one_start b =
       by_test (contains (initial_bits d.initials) b)
-      (λ h. let k = or_neither (nat_lt 1 (length (starters d b))) (contains (settled_bits d.processes) b) (or_neither (nat_lt 1 (length (starters d b)) || contains (settled_bits d.processes) b) (contains (late_bits d.initials) b && contains (stirring_bits d.processes) b) (no_clash b h)).0 in
+      (λ h. let k = or_neither (nat_lt 1 (length (starters d b))) (contains (settled_bits d.processes) b) (or_neither (nat_lt 1 (length (starters d b)) || contains (settled_bits d.processes) b) (is_late_start d b) (no_clash b h)).0 in
       subst (λ n. n ≤ 1) (many_starters 0 d.initials b) (not_more (length (starters d b)) k.0))
       (λ h. rw (how_many_none d.initials b h) (omega arith))
     where
@@ -73,10 +73,13 @@ module _ (d : Design) (names : List (List ℕ)) (a : IsAcceptedDesign d names) w
       not_more n h = grind arith
 
   pub unsettled_start : (b : ℕ) → contains (initial_bits d.initials) b ≡ true → contains (settled_bits d.processes) b ≡ false
-  unsettled_start b h = (or_neither (nat_lt 1 (length (starters d b))) (contains (settled_bits d.processes) b) (or_neither (nat_lt 1 (length (starters d b)) || contains (settled_bits d.processes) b) (contains (late_bits d.initials) b && contains (stirring_bits d.processes) b) (no_clash b h)).0).1
+  unsettled_start b h = (or_neither (nat_lt 1 (length (starters d b))) (contains (settled_bits d.processes) b) (or_neither (nat_lt 1 (length (starters d b)) || contains (settled_bits d.processes) b) (is_late_start d b) (no_clash b h)).0).1
 
   pub late_apart : (b : ℕ) → contains (initial_bits d.initials) b ≡ true → contains (late_bits d.initials) b ≡ true → contains (stirring_bits d.processes) b ≡ false
-  late_apart b h l = subst (λ (c : Bool). (c && contains (stirring_bits d.processes) b) ≡ false) l (or_neither (nat_lt 1 (length (starters d b)) || contains (settled_bits d.processes) b) (contains (late_bits d.initials) b && contains (stirring_bits d.processes) b) (no_clash b h)).1
+  late_apart b h l =
+      let late = (or_neither (nat_lt 1 (length (starters d b)) || contains (settled_bits d.processes) b) (is_late_start d b) (no_clash b h)).1 in
+      let both = subst (λ (c : Bool). (c && (contains (stirring_bits d.processes) b || (contains (early_bits d.initials) b && contains (written_bits d.processes) b))) ≡ false) l late in
+      (or_neither (contains (stirring_bits d.processes) b) (contains (early_bits d.initials) b && contains (written_bits d.processes) b) both).0
 
   -- ---- who keeps a bit that an initial process writes
 

@@ -24,7 +24,7 @@ agree_after xs ws s r h b k = write_all_at ws s r b (h b k)
 mutual
   pub body_reads : BodyReads
   body_reads Empty s r h = refl
-  body_reads (Assignment place target e blocking) s r h = ap {B = Effect} (effect_of blocking) (assignment_local target e s r h)
+  body_reads (Assignment place target e blocking delay) s r h = ap {B = Effect} (effect_of blocking delay) (assignment_local target e s r h)
   body_reads (Then first rest) s r h =
       let one : body first s ≡ body first r = body_reads first s r (agree-left (statement_reads first) (statement_reads rest) s r h) in
       let two : body rest (write_all s (body first s).writes) ≡ body rest (write_all r (body first s).writes) =
@@ -65,7 +65,7 @@ join_in xs ys xs' ys' b f g h =
 mutual
   pub early_in : (st : Statement) (before : List ℕ) (b : ℕ) → contains (early_reads st before) b ≡ true → contains (statement_reads st) b ≡ true
   early_in Empty before b h = h
-  early_in (Assignment place target e blocking) before b h = without_in (target_reads target ++ read_bits e) before b h
+  early_in (Assignment place target e blocking delay) before b h = without_in (target_reads target ++ read_bits e) before b h
   early_in (Then first rest) before b h =
       join_in (early_reads first before) (early_reads rest (assigned_after first before)) (statement_reads first) (statement_reads rest) b (early_in first before b) (early_in rest (assigned_after first before) b) h
   early_in (If c taken other) before b h =

@@ -1,17 +1,18 @@
 -- A body's writes and updates are within its bits, and on every path it writes what its statement assigns.
 use Rattle.std.proofs.Common.{◌≡◌, ℕ, Bool, true, false, cond, List, [], ◌∷◌, ◌++◌, ◌||◌, ◌&&◌, not, if◌then◌else◌, ◌⊎◌, inl, inr, refl, sym, ap, ◌∙◌, subst, append-nil}
-use Rattle.vs_net.specs.Network.{State, Write, Update, Effect, write_all, is_written, flatten}
+use Rattle.vs_net.specs.Network.{State, Write, Update, Delayed, Effect, write_all, is_written, flatten}
 use Rattle.vs_four.specs.Logic.{BitList, truth}
 use Rattle.vs_four.specs.Tables.{is_one}
 use Rattle.vs_design.specs.Expressions.{Expression}
 use Rattle.vs_design.specs.Values.{own_value, value}
 use Rattle.vs_design.specs.Statements.{Target, CaseKind, Statement, Empty, Assignment, Then, If, Case, Arms, Arm, Default, case_width, case_sign}
-use Rattle.vs_design.specs.Bodies.{assignment_writes, effect_of, no_effect, both_effects, is_taken, body, arms_body}
+use Rattle.vs_design.specs.Bodies.{assignment_writes, effect_of, no_effect, both_effects, is_taken, body, arms_body, updates_in}
 use Rattle.vs_design.specs.Footprints.{contains, target_bits, statement_bits, arms_bits}
 use Rattle.vs_design.specs.Latches.{assigns, common, assigned_after, assigned_in_arms}
 use Rattle.vs_design.specs.Rules.{mixed_in, mixed_in_arms}
 use Rattle.vs_design.specs.Fits.{fits_target, fits_statement, fits_arms, fit_items, is_fit}
 use Rattle.vs_design.proofs.Lists.{by_test, or_left, or_right, and_both, contains-append, contains-left, contains-right, contains_filter}
+use Rattle.vs_design.proofs.Sorted.{written_both}
 use Rattle.vs_design.proofs.Writes.{HasParts, fit_parts, written-append, parts_within, assignment_assigns}
 
 pub cond_of : {A : Type 0} (P : A → Type 0) (b : Bool) (x y : A) → P x → P y → P (cond b x y)
@@ -49,7 +50,7 @@ one_flat ws = append-nil ws
 
 -- what an effect writes or leaves to be written
 abbrev pub Within : List ℕ → Effect → Type 0
-Within bits f = (b : ℕ) → (is_written f.writes b ≡ true) ⊎ (is_written (flatten f.updates) b ≡ true) → contains bits b ≡ true
+Within bits f = (b : ℕ) → (is_written f.writes b ≡ true) ⊎ (is_written (flatten (updates_in f)) b ≡ true) → contains bits b ≡ true
 
 pub widen_left : (xs ys : List ℕ) (f : Effect) → Within xs f → Within (xs ++ ys) f
 widen_left xs ys f h b k = contains-left xs ys b (h b k)
@@ -57,12 +58,12 @@ widen_left xs ys f h b k = contains-left xs ys b (h b k)
 pub widen_right : (xs ys : List ℕ) (f : Effect) → Within ys f → Within (xs ++ ys) f
 widen_right xs ys f h b k = contains-right xs ys b (h b k)
 
-pub effect_within : (t : Target) (e : Expression) (s : State) (blocking : Bool) → HasParts t → Within (target_bits t) (effect_of blocking (assignment_writes t e s))
+pub effect_within : (t : Target) (e : Expression) (s : State) (blocking : Bool) (delay : ℕ) → HasParts t → Within (target_bits t) (effect_of blocking delay (assignment_writes t e s))
 unfolding flatten is_written
-effect_within t e s true f b (inl h) = parts_within t e s b f h
-effect_within t e s true f b (inr h) = cc
-effect_within t e s false f b (inl h) = cc
-effect_within t e s false f b (inr h) = parts_within t e s b f (no_more (assignment_writes t e s) b h)
+effect_within t e s true delay f b (inl h) = parts_within t e s b f h
+effect_within t e s true delay f b (inr h) = cc
+effect_within t e s false delay f b (inl h) = cc
+effect_within t e s false delay f b (inr h) = parts_within t e s b f (no_more (assignment_writes t e s) b h)
   where
     no_more : (ws : List Write) (b : ℕ) → is_written (ws ++ []) b ≡ true → is_written ws b ≡ true
     no_more ws b h = by_test (is_written ws b) (λ k. k) (λ k. cc (subst (λ c. (c || false) ≡ true) k (sym (written-append ws [] b) ∙ h)))
@@ -72,9 +73,9 @@ both_within xs ys f g hf hg b (inl h) =
     by_test (is_written f.writes b)
     (λ e. contains-left xs ys b (hf b (inl e)))
     (λ e. contains-right xs ys b (hg b (inl (subst (λ c. (c || is_written g.writes b) ≡ true) e (sym (written-append f.writes g.writes b) ∙ h)))))
-both_within xs ys f g hf hg b (inr h) = go (flatten-append f.updates g.updates b h)
+both_within xs ys f g hf hg b (inr h) = go (by_test (is_written (flatten (updates_in f)) b) (λ e. inl e) (λ e. inr (subst (λ c. (c || is_written (flatten (updates_in g)) b) ≡ true) e (sym (written_both f g b) ∙ h))))
   where
-    go : (is_written (flatten f.updates) b ≡ true) ⊎ (is_written (flatten g.updates) b ≡ true) → contains (xs ++ ys) b ≡ true
+    go : (is_written (flatten (updates_in f)) b ≡ true) ⊎ (is_written (flatten (updates_in g)) b ≡ true) → contains (xs ++ ys) b ≡ true
     go (inl k) = contains-left xs ys b (hf b (inr k))
     go (inr k) = contains-right xs ys b (hg b (inr k))
 
@@ -86,7 +87,7 @@ nothing_within xs b (inr h) = cc
 mutual
   pub body_within : (st : Statement) (s : State) → fits_statement st ≡ true → Within (statement_bits st) (body st s)
   body_within Empty s f = nothing_within []
-  body_within (Assignment place target e blocking) s f = effect_within target e s blocking (fit_parts target (and_both (fits_target target) (is_fit e) f).0)
+  body_within (Assignment place target e blocking delay) s f = effect_within target e s blocking delay (fit_parts target (and_both (fits_target target) (is_fit e) f).0)
   body_within (Then first rest) s f =
       let k = and_both (fits_statement first) (fits_statement rest) f in
       both_within (statement_bits first) (statement_bits rest) (body first s) (body rest (write_all s (body first s).writes)) (body_within first s k.0) (body_within rest (write_all s (body first s).writes) k.1)
@@ -112,10 +113,10 @@ mutual
 mutual
   pub body_updates : (st : Statement) (s : State) → mixed_in false st ≡ [] → (body st s).updates ≡ []
   body_updates Empty s f = refl
-  body_updates (Assignment place target e blocking) s f = subst (λ c. (effect_of c (assignment_writes target e s)).updates ≡ []) (sym (blocking_is blocking place f)) refl
+  body_updates (Assignment place target e blocking delay) s f = subst (λ c. (effect_of c delay (assignment_writes target e s)).updates ≡ []) (sym (blocking_is blocking place f)) refl
   body_updates (Then first rest) s f =
       let k = append_empty (mixed_in false first) (mixed_in false rest) f in
-      ap {B = List Update} (λ us. us ++ (body rest (write_all s (body first s).writes)).updates) (body_updates first s k.0) ∙ body_updates rest (write_all s (body first s).writes) k.1
+      ap {B = List Delayed} (λ us. us ++ (body rest (write_all s (body first s).writes)).updates) (body_updates first s k.0) ∙ body_updates rest (write_all s (body first s).writes) k.1
   body_updates (If c taken other) s f =
       let k = append_empty (mixed_in false taken) (mixed_in false other) f in
       cond_of (λ (x : Effect). x.updates ≡ []) (is_one (truth (own_value c s))) (body taken s) (body other s) (body_updates taken s k.0) (body_updates other s k.1)
@@ -131,7 +132,7 @@ mutual
 mutual
   pub body_writes : (st : Statement) (s : State) → mixed_in true st ≡ [] → (body st s).writes ≡ []
   body_writes Empty s f = refl
-  body_writes (Assignment place target e blocking) s f = subst (λ c. (effect_of c (assignment_writes target e s)).writes ≡ []) (sym (nonblocking_is blocking place f)) refl
+  body_writes (Assignment place target e blocking delay) s f = subst (λ c. (effect_of c delay (assignment_writes target e s)).writes ≡ []) (sym (nonblocking_is blocking place f)) refl
   body_writes (Then first rest) s f =
       let k = append_empty (mixed_in true first) (mixed_in true rest) f in
       ap {B = List Write} (λ us. us ++ (body rest (write_all s (body first s).writes)).writes) (body_writes first s k.0) ∙ body_writes rest (write_all s (body first s).writes) k.1
@@ -159,12 +160,12 @@ assigned_common_left before xs ys f h b k = h b (contains_common xs ys b k).0
 assigned_common_right : (before xs ys : List ℕ) (f : Effect) → Assigned before ys f → Assigned before (common xs ys) f
 assigned_common_right before xs ys f h b k = h b (contains_common xs ys b k).1
 
-assigned_effect : (t : Target) (e : Expression) (s : State) (before : List ℕ) (blocking : Bool) → blocking ≡ true → Assigned before (assigns t ++ before) (effect_of blocking (assignment_writes t e s))
-assigned_effect t e s before true h b k =
+assigned_effect : (t : Target) (e : Expression) (s : State) (before : List ℕ) (blocking : Bool) (delay : ℕ) → blocking ≡ true → Assigned before (assigns t ++ before) (effect_of blocking delay (assignment_writes t e s))
+assigned_effect t e s before true delay h b k =
     by_test (contains (assigns t) b)
     (λ q. inr (assignment_assigns t e s b q))
     (λ q. inl (subst (λ c. (c || contains before b) ≡ true) q (sym (contains-append (assigns t) before b) ∙ k)))
-assigned_effect t e s before false h b k = cc
+assigned_effect t e s before false delay h b k = cc
 
 then_assigned : (b : ℕ) (f g : Effect) (before middle : List ℕ) → (contains middle b ≡ true) ⊎ (is_written g.writes b ≡ true) → (contains middle b ≡ true → (contains before b ≡ true) ⊎ (is_written f.writes b ≡ true))
     → (contains before b ≡ true) ⊎ (is_written (f.writes ++ g.writes) b ≡ true)
@@ -178,7 +179,7 @@ then_assigned b f g before middle (inl h) k = go (k h)
 mutual
   pub body_assigns : (st : Statement) (s : State) (before : List ℕ) → mixed_in false st ≡ [] → Assigned before (assigned_after st before) (body st s)
   body_assigns Empty s before f b h = inl h
-  body_assigns (Assignment place target e blocking) s before f b h = assigned_effect target e s before blocking (blocking_is blocking place f) b h
+  body_assigns (Assignment place target e blocking delay) s before f b h = assigned_effect target e s before blocking delay (blocking_is blocking place f) b h
   body_assigns (Then first rest) s before f b h =
       let k = append_empty (mixed_in false first) (mixed_in false rest) f in
       then_assigned b (body first s) (body rest (write_all s (body first s).writes)) before (assigned_after first before)

@@ -44,7 +44,7 @@ both_conds c d x y x' y' e f g = ap {B = Effect} (λ k. cond k x y) e ∙ ap {B 
 mutual
   pub body_local : (st : Statement) (before : List ℕ) (s r : State) → mixed_in false st ≡ [] → Agree (early_reads st before) s r → Agree before s r → body st s ≡ body st r
   body_local Empty before s r m h k = refl
-  body_local (Assignment place target e blocking) before s r m h k = ap {B = Effect} (effect_of blocking) (assignment_local target e s r (agree_without (target_reads target ++ read_bits e) before s r h k))
+  body_local (Assignment place target e blocking delay) before s r m h k = ap {B = Effect} (effect_of blocking delay) (assignment_local target e s r (agree_without (target_reads target ++ read_bits e) before s r h k))
   body_local (Then first rest) before s r m h k =
       let ms = append_empty (mixed_in false first) (mixed_in false rest) m in
       let early = agree-left (early_reads first before) (early_reads rest (assigned_after first before)) s r h in

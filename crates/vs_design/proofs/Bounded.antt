@@ -1,12 +1,14 @@
 -- A slot of an accepted design has few steps.
 use Rattle.vs_net.specs.Bound.{written_at_once}
-use Rattle.std.proofs.Common.{◌≡◌, ℕ, ◌+◌, ◌≤◌, Bool, true, false, List, [], ◌∷◌, ◌++◌, ◌||◌, ◌==◌, eqb-true, not, if◌then◌else◌, refl, subst, length, Option, Some, None, arith, length-append}
+use Rattle.std.proofs.Common.{◌≡◌, ℕ, ◌+◌, ◌≤◌, Bool, true, false, List, [], ◌∷◌, ◌++◌, ◌||◌, ◌==◌, eqb-true, not, if◌then◌else◌, ◌&&◌, refl, sym, ap, ◌∙◌, subst, length, Option, Some, None, arith, length-append}
 use Rattle.std.specs.Prelude.{slice_get}
 use Rattle.std.specs.List.{list_any}
-use Rattle.vs_net.specs.Network.{Reset, reset_of, State, Update, Effect, write_all, Network, Kind, AnInput, TheClock, AnAssign, AComb, AClocked, kind, writes, listens, clock_net, updates, made}
+use Rattle.vs_net.specs.Network.{Reset, reset_of, State, Update, Delayed, Effect, but_delay, delayed, write_all, Network, Kind, AnInput, TheClock, AnAssign, AComb, AClocked, kind, writes, listens, clock_net, updates, made}
 use Rattle.vs_net.specs.Network as N
 use Rattle.vs_net.specs.Lawful.{IsLawful}
 use Rattle.vs_net.proofs.Bounded.{slots_end}
+use Rattle.vs_net.proofs.Delays.{length_updates}
+use Rattle.std.proofs.lemmas.Bool.{cond-true, cond-false}
 use Rattle.vs_net.proofs.Continued.{runs_end}
 use Rattle.vs_four.specs.Logic.{BitList, truth}
 use Rattle.vs_four.specs.Tables.{is_one}
@@ -17,11 +19,12 @@ use Rattle.vs_design.specs.Designs.{Process, Continuous, Always, is_clocked, Ini
 use Rattle.vs_design.specs.Footprints.{contains, target_reads, read_bits, waits_of, without, signals_bits, wait_signals, statement_bits}
 use Rattle.vs_design.specs.Initials.{IsOrderOf}
 use Rattle.vs_design.specs.Clocks.{clock_bits}
-use Rattle.vs_design.specs.Networks.{network_in, process_of, block_process}
+use Rattle.vs_design.specs.Delays.{has_delays, have_delays}
+use Rattle.vs_design.specs.Networks.{network_in, process_of, block_process, delays_of}
 use Rattle.vs_design.specs.Bounds.{assignments, arms_assignments, wakers, size_of, feeds_of}
 use Rattle.vs_design.specs.Accepted.{IsAcceptedDesign}
 use Rattle.vs_design.specs.Laws.{BoundOfDesign, RunsEndOfDesign}
-use Rattle.vs_design.proofs.Lists.{by_test, or_left, or_right}
+use Rattle.vs_design.proofs.Lists.{by_test, or_left, or_right, or_neither}
 use Rattle.vs_design.proofs.Writes.{either_way}
 use Rattle.vs_design.proofs.BodyExact.{cond_of}
 use Rattle.vs_design.proofs.TimeBits.{any_bit}
@@ -43,14 +46,14 @@ once_append : (xs ys : List N.Write) → written_at_once (xs ++ ys) ≤ written_
 once_append [] ys = omega arith
 once_append (x ∷ xs) ys = omega arith
 
-effect_few : (blocking : Bool) (ws : List N.Write) → effect_count (effect_of blocking ws) ≤ 1
-effect_few true ws = let m = once_most ws in omega (arith, m)
-effect_few false ws = omega arith
+effect_few : (blocking : Bool) (delay : ℕ) (ws : List N.Write) → effect_count (effect_of blocking delay ws) ≤ 1
+effect_few true delay ws = let m = once_most ws in omega (arith, m)
+effect_few false delay ws = omega arith
 
 mutual
   body_few : (st : Statement) (s : State) → effect_count (body st s) ≤ assignments st
   body_few Empty s = omega arith
-  body_few (Assignment place target e blocking) s = effect_few blocking (assignment_writes target e s)
+  body_few (Assignment place target e blocking delay) s = effect_few blocking delay (assignment_writes target e s)
   body_few (Then first rest) s =
       let a = body_few first s in
       let b = body_few rest (write_all s (body first s).writes) in
@@ -69,6 +72,39 @@ mutual
       let b = arms_few rest kind w g v s in
       cond_of (λ (x : Effect). effect_count x ≤ assignments statement + arms_assignments rest) (is_taken kind w g v items s) (body statement s) (arms_body rest kind w g v s) (omega (arith, a)) (omega (arith, b))
   arms_few (Default statement) kind w g v s = body_few statement s
+
+-- where no update has a delay all come at once
+but_more : (ds es : List Delayed) → but_delay 0 ds ≡ [] → but_delay 0 es ≡ [] → but_delay 0 (ds ++ es) ≡ []
+but_more [] es h k = k
+but_more (d ∷ ds) es h k =
+    by_test (d.delay == 0)
+    (λ e. cond-true (d.delay == 0) (but_delay 0 (ds ++ es)) (d ∷ but_delay 0 (ds ++ es)) e ∙ but_more ds es (sym (cond-true (d.delay == 0) (but_delay 0 ds) (d ∷ but_delay 0 ds) e) ∙ h) k)
+    (λ e. absurd (let z = sym (cond-false (d.delay == 0) (but_delay 0 ds) (d ∷ but_delay 0 ds) e) ∙ h in cc))
+
+effect_prompt : (blocking : Bool) (delay : ℕ) (ws : List N.Write) → (not blocking && not (delay == 0)) ≡ false → but_delay 0 (effect_of blocking delay ws).updates ≡ []
+effect_prompt true delay ws h = refl
+effect_prompt false delay ws h =
+    by_test (delay == 0)
+    (λ e. cond-true (delay == 0) [] (record { delay = delay; update = ws } ∷ []) e)
+    (λ e. absurd (let z = subst (λ (c : Bool). not c ≡ false) e h in cc))
+
+mutual
+  pub body_prompt : (st : Statement) (s : State) → has_delays st ≡ false → but_delay 0 (body st s).updates ≡ []
+  body_prompt Empty s h = refl
+  body_prompt (Assignment place target e blocking delay) s h = effect_prompt blocking delay (assignment_writes target e s) h
+  body_prompt (Then first rest) s h =
+      let g = or_neither (has_delays first) (has_delays rest) h in
+      but_more (body first s).updates (body rest (write_all s (body first s).writes)).updates (body_prompt first s g.0) (body_prompt rest (write_all s (body first s).writes) g.1)
+  body_prompt (If c taken other) s h =
+      let g = or_neither (has_delays taken) (has_delays other) h in
+      cond_of (λ (x : Effect). but_delay 0 x.updates ≡ []) (is_one (truth (own_value c s))) (body taken s) (body other s) (body_prompt taken s g.0) (body_prompt other s g.1)
+  body_prompt (Case kind subject arms) s h = arms_prompt arms kind (case_width subject arms) (case_sign subject arms) (value subject (case_width subject arms) (case_sign subject arms) s) s h
+
+  arms_prompt : (arms : Arms) (kind : CaseKind) (w : ℕ) (g : Bool) (v : BitList) (s : State) → have_delays arms ≡ false → but_delay 0 (arms_body arms kind w g v s).updates ≡ []
+  arms_prompt (Arm items statement rest) kind w g v s h =
+      let k = or_neither (has_delays statement) (have_delays rest) h in
+      cond_of (λ (x : Effect). but_delay 0 x.updates ≡ []) (is_taken kind w g v items s) (body statement s) (arms_body rest kind w g v s) (body_prompt statement s k.0) (arms_prompt rest kind w g v s k.1)
+  arms_prompt (Default statement) kind w g v s h = body_prompt statement s h
 
 any_of : (test : ℕ → Bool) (bs : List ℕ) (b : ℕ) → contains bs b ≡ true → test b ≡ true → list_any test bs ≡ true
 any_of test [] b h k = cc
@@ -115,12 +151,24 @@ module _ (d : Design) (names : List (List ℕ)) (a : IsAcceptedDesign d names) (
   few p s = by_kind d (clock_bits a.clocks) (λ p x. kind x ≡ AClocked → written_at_once (made x s) + length (updates x s) ≤ size_of d p) (record {
     assigns = λ p place port target_place target e h w. cc;
     combs = λ p place star events st h k w. cc;
-    clocked = λ p place star events st h k w. rw h (body_few st s);
+    clocked = λ p place star events st h k w. rw h (let m = body_few st s in let n = length_updates (body st s).updates in omega (arith, m, n));
     inputs = λ p i r l e f w. cc;
     clock = λ p i r l e f w. cc;
     spare = λ p i m l f named past w. cc;
     keeper = λ p l m bs e w. omega arith;
     none = λ p w. cc;
+  }) p
+
+  prompt : (p : ℕ) (s : State) → kind (net_work.process p) ≡ AClocked → net_work.delays p ≡ false → but_delay 0 (delayed (net_work.process p) s) ≡ []
+  prompt p s = by_kind d (clock_bits a.clocks) (λ p x. kind x ≡ AClocked → net_work.delays p ≡ false → but_delay 0 (delayed x s) ≡ []) (record {
+    assigns = λ p place port target_place target e h w z. cc;
+    combs = λ p place star events st h k w z. cc;
+    clocked = λ p place star events st h k w z. body_prompt st s (sym (ap delays_of h) ∙ z);
+    inputs = λ p i r l e f w z. cc;
+    clock = λ p i r l e f w z. cc;
+    spare = λ p i m l f named past w z. cc;
+    keeper = λ p l m bs e w z. refl;
+    none = λ p w z. cc;
   }) p
 
   master_of : (p : ℕ) (k : Kind) → kind (net_work.process p) ≡ k → ℕ
@@ -158,9 +206,9 @@ module _ (d : Design) (names : List (List ℕ)) (a : IsAcceptedDesign d names) (
 pub bound_of : BoundOfDesign
 bound_of d names a order o =
     let n = network_in d (clock_bits a.clocks) order in
-    let w = weight n (lawful d names a order o) (feeds_of d (clock_bits a.clocks)) (size_of d) (master d names a order o) (fed d names a order o) (fed_only d names a order o) (few d names a order o) (mastered d names a order o) (second d names a order o) (seconded d names a order o) in
-    let r = runs n (lawful d names a order o) (feeds_of d (clock_bits a.clocks)) (size_of d) (master d names a order o) (fed d names a order o) (fed_only d names a order o) (few d names a order o) (mastered d names a order o) (second d names a order o) (seconded d names a order o) in
-    let h = weighed n (lawful d names a order o) (feeds_of d (clock_bits a.clocks)) (size_of d) (master d names a order o) (fed d names a order o) (fed_only d names a order o) (few d names a order o) (mastered d names a order o) (second d names a order o) (seconded d names a order o) in
+    let w = weight n (lawful d names a order o) (feeds_of d (clock_bits a.clocks)) (size_of d) (master d names a order o) (fed d names a order o) (fed_only d names a order o) (few d names a order o) (prompt d names a order o) (mastered d names a order o) (second d names a order o) (seconded d names a order o) in
+    let r = runs n (lawful d names a order o) (feeds_of d (clock_bits a.clocks)) (size_of d) (master d names a order o) (fed d names a order o) (fed_only d names a order o) (few d names a order o) (prompt d names a order o) (mastered d names a order o) (second d names a order o) (seconded d names a order o) in
+    let h = weighed n (lawful d names a order o) (feeds_of d (clock_bits a.clocks)) (size_of d) (master d names a order o) (fed d names a order o) (fed_only d names a order o) (few d names a order o) (prompt d names a order o) (mastered d names a order o) (second d names a order o) (seconded d names a order o) in
     (w, r, h, slots_end n (lawful d names a order o) (feeds_of d (clock_bits a.clocks)) (size_of d) w r h)
 
 pub runs_end_of : RunsEndOfDesign

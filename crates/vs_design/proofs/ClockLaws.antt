@@ -10,6 +10,7 @@ use Rattle.vs_net.specs.Network.{State, Update, Effect, Network, Kind, TheClock,
 use Rattle.vs_net.specs.Lawful.{IsClockPort, Settles}
 use Rattle.vs_design.specs.Expressions.{Expression}
 use Rattle.vs_design.specs.Statements.{Target, Statement}
+use Rattle.vs_design.specs.Bodies.{updates_in}
 use Rattle.vs_design.specs.Designs.{Event, Process, Continuous, Always, is_clocked, Design}
 use Rattle.vs_design.specs.Footprints.{contains, read_bits, target_reads, target_bits, statement_bits, statement_reads, writes_of, reads_of, waits_of, without}
 use Rattle.vs_design.specs.Clocks.{clock_bits, first_clock, edge_bit, is_clock_net, port_target, port_targets, clock_nets, root_of, is_clock_port, reads_clock, is_clock_event, is_reset_event, ByClock, ByBoth, both_events, events_of, clock_bit, has_other_clock}
@@ -176,7 +177,7 @@ module _ (d : Design) (names : List (List ℕ)) (a : IsAcceptedDesign d names) w
   clocked_local p s t = by_kind d (clock_bits a.clocks) (λ p x. kind x ≡ AClocked → ((b : ℕ) → contains nets b ≡ false → ((r : ℕ) → r ≢ p → kind (net_work.process r) ≡ AClocked → stirs_at d r b ≡ false) → s b ≡ t b) → effects x s ≡ effects x t) (record {
     assigns = λ p place port target_place target e h w z. cc;
     combs = λ p place star events st h k w z. cc;
-    clocked = λ p place star events st h k w z. ap {B = List Update} (λ (x : Effect). x.writes ∷ x.updates) (body_reads st s t (λ b q. z b (not_a_net p place star events st h k b q) (λ r ne kr. unstirred p r b place star events st h k ne q)));
+    clocked = λ p place star events st h k w z. ap {B = List Update} (λ (x : Effect). x.writes ∷ updates_in x) (body_reads st s t (λ b q. z b (not_a_net p place star events st h k b q) (λ r ne kr. unstirred p r b place star events st h k ne q)));
     inputs = λ p i r l e f w z. refl;
     clock = λ p i r l e f w z. refl;
     spare = λ p i m l f named past w z. refl;

@@ -85,7 +85,7 @@ module _ (kind : CaseKind) (w : ℕ) (g : Bool) (subject : Expression) where
       (λ q. contains-left (statement_bits statement) (arms_bits (with_default kind w g subject (last_of items statement last) rest)) b q)
       (λ q. contains-right (statement_bits statement) (arms_bits (with_default kind w g subject (last_of items statement last) rest)) b (default_keeps rest (last_of items statement last) b n q))
   default_keeps (Default Empty) last b n h = cc
-  default_keeps (Default (Assignment place target e blocking)) last b n h = cc
+  default_keeps (Default (Assignment place target e blocking delay)) last b n h = cc
   default_keeps (Default (Then first rest)) last b n h = cc
   default_keeps (Default (If c taken other)) last b n h = cc
   default_keeps (Default (Case kind subject arms)) last b n h = cc
@@ -115,7 +115,7 @@ module _ (d : Design) where
   mutual
     pub completed_unmixed : (st : Statement) → mixed_in false st ≡ [] → mixed_in false (completed d st) ≡ []
     completed_unmixed Empty f = f
-    completed_unmixed (Assignment place target e blocking) f = f
+    completed_unmixed (Assignment place target e blocking delay) f = f
     completed_unmixed (Then first rest) f = let k = append_empty (mixed_in false first) (mixed_in false rest) f in empty_both (mixed_in false (completed d first)) (mixed_in false (completed d rest)) (completed_unmixed first k.0) (completed_unmixed rest k.1)
     completed_unmixed (If c taken other) f = let k = append_empty (mixed_in false taken) (mixed_in false other) f in empty_both (mixed_in false (completed d taken)) (mixed_in false (completed d other)) (completed_unmixed taken k.0) (completed_unmixed other k.1)
     completed_unmixed (Case kind subject arms) f =
@@ -129,7 +129,7 @@ module _ (d : Design) where
   mutual
     pub completed_fits : (st : Statement) → fits_statement st ≡ true → fits_statement (completed d st) ≡ true
     completed_fits Empty f = f
-    completed_fits (Assignment place target e blocking) f = f
+    completed_fits (Assignment place target e blocking delay) f = f
     completed_fits (Then first rest) f = let k = and_both (fits_statement first) (fits_statement rest) f in and_true (fits_statement (completed d first)) (fits_statement (completed d rest)) (completed_fits first k.0) (completed_fits rest k.1)
     completed_fits (If c taken other) f =
         let k = and_both (is_fit c && fits_statement taken) (fits_statement other) f in
@@ -151,7 +151,7 @@ module _ (d : Design) where
   mutual
     pub completed_bits : (st : Statement) (b : ℕ) → contains (statement_bits (completed d st)) b ≡ true → contains (statement_bits st) b ≡ true
     completed_bits Empty b h = h
-    completed_bits (Assignment place target e blocking) b h = h
+    completed_bits (Assignment place target e blocking delay) b h = h
     completed_bits (Then first rest) b h = split (statement_bits (completed d first)) (statement_bits (completed d rest)) b h
         (λ q. contains-left (statement_bits first) (statement_bits rest) b (completed_bits first b q)) (λ q. contains-right (statement_bits first) (statement_bits rest) b (completed_bits rest b q))
     completed_bits (If c taken other) b h = split (statement_bits (completed d taken)) (statement_bits (completed d other)) b h
@@ -171,7 +171,7 @@ module _ (d : Design) where
   mutual
     pub completed_reads : (st : Statement) (b : ℕ) → contains (statement_reads (completed d st)) b ≡ true → contains (statement_reads st) b ≡ true
     completed_reads Empty b h = h
-    completed_reads (Assignment place target e blocking) b h = h
+    completed_reads (Assignment place target e blocking delay) b h = h
     completed_reads (Then first rest) b h = split (statement_reads (completed d first)) (statement_reads (completed d rest)) b h
         (λ q. contains-left (statement_reads first) (statement_reads rest) b (completed_reads first b q)) (λ q. contains-right (statement_reads first) (statement_reads rest) b (completed_reads rest b q))
     completed_reads (If c taken other) b h = split (read_bits c) (statement_reads (completed d taken) ++ statement_reads (completed d other)) b h
@@ -199,7 +199,7 @@ module _ (d : Design) where
   -- a default that did nothing does nothing
   nothing_same : (st : Statement) → is_nothing (completed d st) ≡ is_nothing st
   nothing_same Empty = refl
-  nothing_same (Assignment place target e blocking) = refl
+  nothing_same (Assignment place target e blocking delay) = refl
   nothing_same (Then first rest) = refl
   nothing_same (If c taken other) = refl
   nothing_same (Case kind subject arms) = refl
@@ -219,7 +219,7 @@ module _ (d : Design) where
   mutual
     pub completed_keeps : (st : Statement) (b : ℕ) → contains (statement_bits st) b ≡ true → contains (statement_bits (completed d st)) b ≡ true
     completed_keeps Empty b h = h
-    completed_keeps (Assignment place target e blocking) b h = h
+    completed_keeps (Assignment place target e blocking delay) b h = h
     completed_keeps (Then first rest) b h = split (statement_bits first) (statement_bits rest) b h
         (λ q. contains-left (statement_bits (completed d first)) (statement_bits (completed d rest)) b (completed_keeps first b q)) (λ q. contains-right (statement_bits (completed d first)) (statement_bits (completed d rest)) b (completed_keeps rest b q))
     completed_keeps (If c taken other) b h = split (statement_bits taken) (statement_bits other) b h
@@ -239,7 +239,7 @@ module _ (d : Design) where
   mutual
     pub complete_already : (st : Statement) → selector_bits d st ≡ [] → completed d st ≡ st
     complete_already Empty h = refl
-    complete_already (Assignment place target e blocking) h = refl
+    complete_already (Assignment place target e blocking delay) h = refl
     complete_already (Then first rest) h =
         let k = append_empty (selector_bits d first) (selector_bits d rest) h in
         ap {B = Statement} (λ x. Then x (completed d rest)) (complete_already first k.0) ∙ ap {B = Statement} (Then first) (complete_already rest k.1)
@@ -290,7 +290,7 @@ module _ (d : Design) where
     mutual
       same_body : (st : Statement) (s : State) → fits_statement st ≡ true → Inside (statement_bits st) → KnownApart own s (selector_bits d st) → body (completed d st) s ≡ body st s
       same_body Empty s f i k = refl
-      same_body (Assignment place target e blocking) s f i k = refl
+      same_body (Assignment place target e blocking delay) s f i k = refl
       same_body (Then first rest) s f i k =
           let m = and_both (fits_statement first) (fits_statement rest) f in
           let one : body (completed d first) s ≡ body first s = same_body first s m.0 (λ b h. i b (contains-left (statement_bits first) (statement_bits rest) b h)) (left_known (selector_bits d first) (selector_bits d rest) s k) in

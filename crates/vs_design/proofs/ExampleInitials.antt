@@ -131,5 +131,7 @@ initials_computed = record {
   set_twice_refused = refl;
   late_refused = refl;
   soon_passes = refl;
+  both_ways_refused = refl;
+  both_ways_passes = refl;
   unsure_refused = refl;
 }

@@ -171,7 +171,7 @@ target_kind d allowed (Both high low) b f h =
 mutual
   pub statement_kind : (d : Design) (st : Statement) (b : ℕ) → is_formed_statement d st ≡ true → contains (statement_bits st) b ≡ true → contains (variable_bits d) b ≡ true
   statement_kind d Empty b f h = cc
-  statement_kind d (Assignment place target e blocking) b f h = target_kind d is_variable target b (and_both (is_formed_target d is_variable target) (is_formed d e) f).0 h
+  statement_kind d (Assignment place target e blocking delay) b f h = target_kind d is_variable target b (and_both (is_formed_target d is_variable target) (is_formed d e) f).0 h
   statement_kind d (Then first rest) b f h =
       let p = and_both (is_formed_statement d first) (is_formed_statement d rest) f in
       split (statement_bits first) (statement_bits rest) b h (statement_kind d first b p.0) (statement_kind d rest b p.1)

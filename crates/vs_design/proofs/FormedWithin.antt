@@ -31,7 +31,7 @@ formed_parts d allowed (Both high low) f = let p = and_both (is_formed_target d 
 mutual
   pub formed_within : (d : Design) (st : Statement) (s : State) → is_formed_statement d st ≡ true → Within (statement_bits st) (body st s)
   formed_within d Empty s f = nothing_within []
-  formed_within d (Assignment place target e blocking) s f = effect_within target e s blocking (formed_parts d is_variable target (and_both (is_formed_target d is_variable target) (is_formed d e) f).0)
+  formed_within d (Assignment place target e blocking delay) s f = effect_within target e s blocking delay (formed_parts d is_variable target (and_both (is_formed_target d is_variable target) (is_formed d e) f).0)
   formed_within d (Then first rest) s f =
       let k = and_both (is_formed_statement d first) (is_formed_statement d rest) f in
       both_within (statement_bits first) (statement_bits rest) (body first s) (body rest (write_all s (body first s).writes)) (formed_within d first s k.0) (formed_within d rest (write_all s (body first s).writes) k.1)

@@ -1,18 +1,18 @@
 -- An accepted design's processes write their own bits alone, by what they listen to.
 use Rattle.vs_net.proofs.Beginning.{written_or}
 use Rattle.vs_net.proofs.Basics.{flat_cons}
-use Rattle.std.proofs.Common.{◌≡◌, ◌≢◌, ℕ, zero, suc, ◌+◌, ◌*◌, ◌≤◌, Bool, true, false, List, [], ◌++◌, ◌&&◌, ◌==◌, eqb-true, eq-eqb, not, inl, inr, refl, sym, ◌∙◌, subst, length, Option, Some, None, arith, ◌∷◌, ◌⊎◌, ◌<◌, cond, nat_lt}
+use Rattle.std.proofs.Common.{◌≡◌, ◌≢◌, ℕ, zero, suc, ◌+◌, ◌*◌, ◌≤◌, Bool, true, false, List, [], ◌++◌, ◌&&◌, ◌==◌, eqb-true, eq-eqb, not, inl, inr, refl, sym, ap, ◌∙◌, subst, length, Option, Some, None, arith, ◌∷◌, ◌⊎◌, ◌<◌, cond, nat_lt}
 use Rattle.std.specs.Prelude.{slice_get}
 use Rattle.std.specs.List.{list_any, list_all, filter}
 use Rattle.vs_four.specs.declared.Bit4.TheVariants.{X}
-use Rattle.vs_net.specs.Network.{State, Write, is_written, flatten, AnAssign, AComb, AClocked, kind, writes, listens, made, updates, effects, Update}
+use Rattle.vs_net.specs.Network.{State, Write, is_written, flatten, AnAssign, AComb, AClocked, kind, writes, listens, made, updates, effects, Update, Delayed, by_delay, undelayed}
 use Rattle.vs_net.specs.Lawful.{Settles, IsUnknown}
 use Rattle.vs_four.specs.declared.Range.{Range}
 use Rattle.vs_four.specs.Selects.{is_descending, range_length}
 use Rattle.vs_design.specs.Expressions.{Signal, range_or_one, words_length, signal_length, word_length, Expression}
 use Rattle.vs_design.specs.Values.{count_from, bits_of_signal}
 use Rattle.vs_design.specs.Statements.{Target}
-use Rattle.vs_design.specs.Bodies.{assignment_writes, body}
+use Rattle.vs_design.specs.Bodies.{assignment_writes, body, updates_in}
 use Rattle.vs_design.specs.Designs.{Process, Continuous, Always, Initial, Design, top_inputs, bit_count}
 use Rattle.vs_design.specs.Footprints.{contains, read_bits, target_reads, target_bits, statement_bits, writes_of, net_bits, input_bits, variable_bits, signals_bits, is_input, is_net, is_variable}
 use Rattle.vs_design.specs.Levels.{level_order}
@@ -85,7 +85,7 @@ module _ (d : Design) (names : List (List ℕ)) (a : IsAcceptedDesign d names) (
   pub comb_updates : (p : ℕ) (s : State) → kind ((network_of d c).process p) ≡ AComb → updates ((network_of d c).process p) s ≡ []
   comb_updates p s = by_kind d c (λ p x. kind x ≡ AComb → updates x s ≡ []) (record {
     assigns = λ p place port target_place target e h w. refl;
-    combs = λ p place star events st h k w. body_updates st s (comb_facts d names a p place star events st h k).unmixed;
+    combs = λ p place star events st h k w. ap (λ (ds : List Delayed). undelayed (by_delay ds)) (body_updates st s (comb_facts d names a p place star events st h k).unmixed);
     clocked = λ p place star events st h k w. cc;
     inputs = λ p i r l e f w. refl;
     clock = λ p i r l e f w. refl;
@@ -98,7 +98,7 @@ module _ (d : Design) (names : List (List ℕ)) (a : IsAcceptedDesign d names) (
   clocked_own p b s = by_kind d c (λ p x. kind x ≡ AClocked → is_written (flatten (effects x s)) b ≡ true → writes x b ≡ true) (record {
     assigns = λ p place port target_place target e h w. cc;
     combs = λ p place star events st h k w. cc;
-    clocked = λ p place star events st h k w q. body_within st s (block_facts d names a p place star events st h).fit b (given_within (body st s).writes (body st s).updates b q);
+    clocked = λ p place star events st h k w q. body_within st s (block_facts d names a p place star events st h).fit b (given_within (body st s).writes (updates_in (body st s)) b q);
     inputs = λ p i r l e f w. cc;
     clock = λ p i r l e f w. cc;
     spare = λ p i m l f named past w. cc;

@@ -5,6 +5,7 @@ pub mod Words
 pub mod WordParts
 pub mod ReadValue
 pub mod Writes
+pub mod Sorted
 pub mod BodyExact
 pub mod BodyLocal
 pub mod Blocks
@@ -69,12 +70,14 @@ pub mod MemoryLaws
 pub mod Decided
 pub mod Weights
 pub mod Bounded
+pub mod Delays
 pub mod ClosedNets
 pub mod EachClock
 pub mod ExampleLaws
 pub mod ExampleBlocking
 pub mod ExampleInitials
 pub mod ExampleSelects
+pub mod ExampleDelays
 pub mod ExampleMemoryLaws
 pub mod ExampleWordPartLaws
 pub mod ExampleTogether

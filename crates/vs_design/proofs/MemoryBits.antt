@@ -67,7 +67,7 @@ module _ (d : Design) (numbered : have_bits_from 0 d.signals ≡ true) (i : ℕ)
   mutual
     pub unworded_apart : (st : Statement) (b : ℕ) → is_formed_statement d st ≡ true → writes_no_word st ≡ true → contains (statement_bits st) b ≡ true → contains (bits_of_signal s) b ≡ true → ⊥
     unworded_apart Empty b f w h k = cc
-    unworded_apart (Assignment place target e blocking) b f w h k = wordless_apart is_variable target b (and_both (is_formed_target d is_variable target) (is_formed d e) f).0 w h k
+    unworded_apart (Assignment place target e blocking delay) b f w h k = wordless_apart is_variable target b (and_both (is_formed_target d is_variable target) (is_formed d e) f).0 w h k
     unworded_apart (Then first rest) b f w h k =
         let p = and_both (is_formed_statement d first) (is_formed_statement d rest) f in
         let q = and_both (writes_no_word first) (writes_no_word rest) w in

@@ -12,7 +12,7 @@ use Rattle.vs_net.proofs.Basics.{write_all_at, write_all_covered, write_all_othe
 use Rattle.vs_design.specs.Expressions.{Signal, addresses}
 use Rattle.vs_design.specs.Values.{bits_of_signal, read}
 use Rattle.vs_design.specs.Statements.{Statement}
-use Rattle.vs_design.specs.Bodies.{body}
+use Rattle.vs_design.specs.Bodies.{body, updates_in}
 use Rattle.vs_design.specs.Designs.{Event, Process, Continuous, Always, is_clocked, Design}
 use Rattle.vs_design.specs.Footprints.{contains, statement_bits, writes_of, variable_bits, input_bits, is_memory, is_variable, is_stored}
 use Rattle.vs_design.specs.Clocks.{clock_bits, clock_nets, root_of, events_of}
@@ -58,9 +58,9 @@ nothing_changed : (s : State) (b : ℕ) → write_all s (flatten []) b ≡ s b
 unfolding flatten write_all
 nothing_changed s b = refl
 
-given_written : (x : Effect) (b : ℕ) → is_written (flatten (given x)) b ≡ (is_written x.writes b || is_written (flatten x.updates) b)
+given_written : (x : Effect) (b : ℕ) → is_written (flatten (given x)) b ≡ (is_written x.writes b || is_written (flatten (updates_in x)) b)
 unfolding flatten
-given_written x b = written-append x.writes (flatten x.updates) b
+given_written x b = written-append x.writes (flatten (updates_in x)) b
 
 -- ---- one word after some updates
 
@@ -165,7 +165,7 @@ module _ (d : Design) (names : List (List ℕ)) (a : IsAcceptedDesign d names) w
             by_part : (s : State) → is_written (flatten (given (body st s))) b ≡ true → contains (statement_bits st) b ≡ true
             by_part s w = by_test (is_written (body st s).writes b)
                 (λ q. body_within_bits st (block_facts d names a p place star events st h).fit s b (inl q))
-                (λ q. body_within_bits st (block_facts d names a p place star events st h).fit s b (inr (subst (λ c. (c || is_written (flatten (body st s).updates) b) ≡ true) q (sym (given_written (body st s) b) ∙ w))))
+                (λ q. body_within_bits st (block_facts d names a p place star events st h).fit s b (inr (subst (λ c. (c || is_written (flatten (updates_in (body st s))) b) ≡ true) q (sym (given_written (body st s) b) ∙ w))))
 
     -- ---- all updates at one bit
 

@@ -114,7 +114,7 @@ target_named d allowed (Both high low) b f h =
 mutual
   pub statement_named : (d : Design) (st : Statement) (b : ℕ) → is_formed_statement d st ≡ true → contains (statement_reads st) b ≡ true → contains (signals_bits (statement_signals st)) b ≡ true
   statement_named d Empty b f h = h
-  statement_named d (Assignment place target e blocking) b f h =
+  statement_named d (Assignment place target e blocking delay) b f h =
       let p = and_both (is_formed_target d is_variable target) (is_formed d e) f in
       join_bits (target_reads target) (read_bits e) (target_signals target) (read_signals e) b (target_named d is_variable target b p.0) (read_named d e b p.1) h
   statement_named d (Then first rest) b f h =
@@ -192,7 +192,7 @@ target_all d allowed (Both high low) f =
 mutual
   statement_all : (d : Design) (st : Statement) → is_formed_statement d st ≡ true → list_all (is_signal d) (statement_signals st) ≡ true
   statement_all d Empty f = refl
-  statement_all d (Assignment place target e blocking) f =
+  statement_all d (Assignment place target e blocking delay) f =
       let p = and_both (is_formed_target d is_variable target) (is_formed d e) f in both_all d (target_signals target) (read_signals e) (target_all d is_variable target p.0) (read_all d e p.1)
   statement_all d (Then first rest) f =
       let p = and_both (is_formed_statement d first) (is_formed_statement d rest) f in both_all d (statement_signals first) (statement_signals rest) (statement_all d first p.0) (statement_all d rest p.1)

@@ -54,7 +54,7 @@ read-append b (step ∷ p) q = ap {B = Bool} (λ x. contains step.reads b || (no
 mutual
   some_path : (st : Statement) → (path : List Step) × IsPath st path
   some_path Empty = ([], refl)
-  some_path (Assignment place target e blocking) = (record { reads = target_reads target ++ read_bits e; assigned = assigns target } ∷ [], refl)
+  some_path (Assignment place target e blocking delay) = (record { reads = target_reads target ++ read_bits e; assigned = assigns target } ∷ [], refl)
   some_path (Then first rest) = let p = some_path first in let q = some_path rest in (p.0 ++ q.0, (p.0, q.0, p.1, q.1, refl))
   some_path (If c taken other) = let p = some_path taken in (reading (read_bits c) ∷ p.0, (p.0, inl p.1, refl))
   some_path (Case kind subject arms) = let p = some_arm arms in (reading (read_bits subject) ∷ p.0, (p.0, p.1, refl))
@@ -99,7 +99,7 @@ mutual
 
   missed : (st : Statement) (before : List ℕ) (b : ℕ) → contains (assigned_after st before) b ≡ false → Unassigned (IsPath st) before b
   missed Empty before b h = (h, ([], refl, refl))
-  missed (Assignment place target e blocking) before b h =
+  missed (Assignment place target e blocking delay) before b h =
       let k = not_in_append (assigns target) before b h in
       (k.1, (record { reads = target_reads target ++ read_bits e; assigned = assigns target } ∷ [], refl, or_false _ _ k.0 refl))
   missed (Then first rest) before b h =
@@ -128,7 +128,7 @@ mutual
 
   misses : (st : Statement) (before : List ℕ) (b : ℕ) (path : List Step) → IsPath st path → is_assigned b path ≡ false → contains before b ≡ false → contains (assigned_after st before) b ≡ false
   misses Empty before b path i h k = k
-  misses (Assignment place target e blocking) before b path i h k =
+  misses (Assignment place target e blocking delay) before b path i h k =
       let a : (contains (assigns target) b || false) ≡ false = subst (λ p. is_assigned b p ≡ false) i h in
       contains-append (assigns target) before b ∙ or_false _ _ (or_neither (contains (assigns target) b) false a).0 k
   misses (Then first rest) before b path i h k =
@@ -170,7 +170,7 @@ mutual
 
   found_early : (st : Statement) (before : List ℕ) (b : ℕ) → contains (early_reads st before) b ≡ true → Read_on (IsPath st) before b
   found_early Empty before b h = cc
-  found_early (Assignment place target e blocking) before b h =
+  found_early (Assignment place target e blocking delay) before b h =
       let k = in_without (target_reads target ++ read_bits e) before b h in
       (k.1, (record { reads = target_reads target ++ read_bits e; assigned = assigns target } ∷ [], refl, or_left _ _ k.0))
   found_early (Then first rest) before b h =
@@ -210,7 +210,7 @@ mutual
 
   early_found : (st : Statement) (before : List ℕ) (b : ℕ) (path : List Step) → IsPath st path → is_read b path ≡ true → contains before b ≡ false → contains (early_reads st before) b ≡ true
   early_found Empty before b path i h k = absurd (either_way false (subst (λ p. is_read b p ≡ true) i h) refl)
-  early_found (Assignment place target e blocking) before b path i h k =
+  early_found (Assignment place target e blocking delay) before b path i h k =
       let a : (contains (target_reads target ++ read_bits e) b || (not (contains (assigns target) b) && false)) ≡ true = subst (λ p. is_read b p ≡ true) i h in
       contains_without (target_reads target ++ read_bits e) before b (only (contains (target_reads target ++ read_bits e) b) (not (contains (assigns target) b)) a) k
     where

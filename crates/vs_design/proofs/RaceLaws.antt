@@ -8,13 +8,14 @@ use Rattle.vs_net.specs.Network.{State, Effect, write_all, is_written, flatten}
 use Rattle.vs_net.proofs.Basics.{none_written}
 use Rattle.vs_design.specs.Statements.{CaseKind, Target, Statement, Empty, Assignment, Then, If, Case, Arms, Arm, Default, case_width, case_sign}
 use Rattle.vs_design.specs.Values.{own_value, value}
-use Rattle.vs_design.specs.Bodies.{assignment_writes, effect_of, body, arms_body, is_taken}
+use Rattle.vs_design.specs.Bodies.{assignment_writes, effect_of, body, arms_body, is_taken, updates_in}
 use Rattle.vs_design.specs.Designs.{Process, is_clocked, Design}
 use Rattle.vs_design.specs.Footprints.{contains, target_bits, writes_of, reads_of}
 use Rattle.vs_design.specs.Fits.{fits_target, is_fit, fit_items, fits_statement, fits_arms}
 use Rattle.vs_design.specs.Levels.{needs, is_order_after}
 use Rattle.vs_design.specs.Races.{blocking_bits, arms_blocking, nonblocking_bits, arms_nonblocking, stirred_at, stir, stirred, raced_from, race_bits, is_none, race_free}
 use Rattle.vs_design.proofs.Lists.{by_test, and_both, or_left, or_right, contains-left, contains-right}
+use Rattle.vs_design.proofs.Sorted.{written_both}
 use Rattle.vs_design.proofs.Writes.{either_way, written-append, assignment_within}
 use Rattle.vs_design.proofs.Order.{turn_of, all_at_end, Turn}
 use Rattle.vs_design.proofs.BodyExact.{cond_of, flatten-append, one_flat}
@@ -30,10 +31,10 @@ widen_left xs ys f h b k = contains-left xs ys b (h b k)
 widen_right : (xs ys : List ℕ) (f : Effect) → AtOnce ys f → AtOnce (xs ++ ys) f
 widen_right xs ys f h b k = contains-right xs ys b (h b k)
 
-effect_once : (t : Target) (e : Rattle.vs_design.specs.Expressions.Expression) (s : State) (blocking : Bool) → fits_target t ≡ true → AtOnce (if blocking then target_bits t else []) (effect_of blocking (assignment_writes t e s))
+effect_once : (t : Target) (e : Rattle.vs_design.specs.Expressions.Expression) (s : State) (blocking : Bool) (delay : ℕ) → fits_target t ≡ true → AtOnce (if blocking then target_bits t else []) (effect_of blocking delay (assignment_writes t e s))
 unfolding is_written
-effect_once t e s true f b h = assignment_within t e s b f h
-effect_once t e s false f b h = cc
+effect_once t e s true delay f b h = assignment_within t e s b f h
+effect_once t e s false delay f b h = cc
 
 empty_once : (b : ℕ) → is_written [] b ≡ true → ⊥
 unfolding is_written
@@ -42,7 +43,7 @@ empty_once b h = cc
 mutual
   pub body_once : (st : Statement) (s : State) → fits_statement st ≡ true → AtOnce (blocking_bits st) (body st s)
   body_once Empty s f = λ b h. absurd (empty_once b h)
-  body_once (Assignment place target e blocking) s f = effect_once target e s blocking (and_both (fits_target target) (is_fit e) f).0
+  body_once (Assignment place target e blocking delay) s f = effect_once target e s blocking delay (and_both (fits_target target) (is_fit e) f).0
   body_once (Then first rest) s f = λ b h.
       let k = and_both (fits_statement first) (fits_statement rest) f in
       let later = (body rest (write_all s (body first s).writes)).writes in
@@ -70,7 +71,7 @@ mutual
 -- ---- and what by updates
 
 abbrev Later : List ℕ → Effect → Type 0
-Later bits f = (b : ℕ) → is_written (flatten f.updates) b ≡ true → contains bits b ≡ true
+Later bits f = (b : ℕ) → is_written (flatten (updates_in f)) b ≡ true → contains bits b ≡ true
 
 later_left : (xs ys : List ℕ) (f : Effect) → Later xs f → Later (xs ++ ys) f
 later_left xs ys f h b k = contains-left xs ys b (h b k)
@@ -78,17 +79,18 @@ later_left xs ys f h b k = contains-left xs ys b (h b k)
 later_right : (xs ys : List ℕ) (f : Effect) → Later ys f → Later (xs ++ ys) f
 later_right xs ys f h b k = contains-right xs ys b (h b k)
 
-effect_later : (t : Target) (e : Rattle.vs_design.specs.Expressions.Expression) (s : State) (blocking : Bool) → fits_target t ≡ true → Later (if blocking then [] else target_bits t) (effect_of blocking (assignment_writes t e s))
-effect_later t e s true f b h = absurd (none_written b h)
-effect_later t e s false f b h = assignment_within t e s b f (subst (λ ws. is_written ws b ≡ true) (one_flat (assignment_writes t e s)) h)
+effect_later : (t : Target) (e : Rattle.vs_design.specs.Expressions.Expression) (s : State) (blocking : Bool) (delay : ℕ) → fits_target t ≡ true → Later (if blocking then [] else target_bits t) (effect_of blocking delay (assignment_writes t e s))
+effect_later t e s true delay f b h = absurd (none_written b h)
+effect_later t e s false delay f b h = assignment_within t e s b f (subst (λ ws. is_written ws b ≡ true) (one_flat (assignment_writes t e s)) h)
 
 mutual
   pub body_later : (st : Statement) (s : State) → fits_statement st ≡ true → Later (nonblocking_bits st) (body st s)
   body_later Empty s f = λ b h. absurd (none_written b h)
-  body_later (Assignment place target e blocking) s f = effect_later target e s blocking (and_both (fits_target target) (is_fit e) f).0
+  body_later (Assignment place target e blocking delay) s f = effect_later target e s blocking delay (and_both (fits_target target) (is_fit e) f).0
   body_later (Then first rest) s f = λ b h.
       let k = and_both (fits_statement first) (fits_statement rest) f in
-      by_part b (flatten-append (body first s).updates (body rest (write_all s (body first s).writes)).updates b h)
+      let g = body rest (write_all s (body first s).writes) in
+      by_part b (by_test (is_written (flatten (updates_in (body first s))) b) (λ e. inl e) (λ e. inr (subst (λ c. (c || is_written (flatten (updates_in g)) b) ≡ true) e (sym (written_both (body first s) g b) ∙ h))))
       (λ w. contains-left (nonblocking_bits first) (nonblocking_bits rest) b (body_later first s k.0 b w))
       (λ w. contains-right (nonblocking_bits first) (nonblocking_bits rest) b (body_later rest (write_all s (body first s).writes) k.1 b w))
     where

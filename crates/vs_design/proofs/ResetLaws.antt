@@ -12,7 +12,7 @@ use Rattle.vs_net.specs.Lawful.{IsClockPort, IsResetPort}
 use Rattle.vs_design.specs.Expressions.{Signal, signal_length, Expression, Literal, Name, Select, Word, WordPart, Unary, BitNot, LogicalNot, Binary, Choice, Join, Repeat, At, Call, width, sign, is_constant}
 use Rattle.vs_design.specs.Values.{bits_of_signal, count_from, own_value, value}
 use Rattle.vs_design.specs.Statements.{Target, Whole, Statement, Empty, Assignment, Then, If, Case}
-use Rattle.vs_design.specs.Bodies.{body}
+use Rattle.vs_design.specs.Bodies.{body, updates_in}
 use Rattle.vs_design.specs.Designs.{Edge, Any, Posedge, Negedge, Event, Port, Process, Continuous, Always, Design, top_inputs}
 use Rattle.vs_design.specs.Footprints.{contains, read_bits, target_reads, target_bits, statement_signals, writes_of, signals_bits}
 use Rattle.vs_design.specs.Elaborated.{is_formed, is_formed_statement, is_formed_process, are_formed_events}
@@ -221,7 +221,7 @@ fixed_body d s r t f h =
 
 -- all that a run gives, in order
 abbrev pub given : Effect → List Update
-given x = x.writes ∷ x.updates
+given x = x.writes ∷ updates_in x
 
 if_runs : (d : Design) (edge : Edge) (b : ℕ) (c : Expression) (taken other taken' : Statement) (r : State) → is_formed_statement d taken ≡ true → (if is_condition edge b c && is_fixed taken then Some taken else None) ≡ Some taken' → r b ≡ to_value (net_edge edge) → given (body (If c taken other) r) ≡ given (body taken' (λ m. X))
 if_runs d edge b c taken other taken' r f h e = by_test (is_condition edge b c && is_fixed taken)
@@ -236,7 +236,7 @@ branch_runs d edge b (If c first other) taken r f h e = if_runs d edge b c first
     formed_taken : is_formed_statement d (If c first other) ≡ true → is_formed_statement d first ≡ true
     formed_taken f = (and_both (is_formed d c) (is_formed_statement d first) (and_both (is_formed d c && is_formed_statement d first) (is_formed_statement d other) f).0).1
 branch_runs d edge b Empty taken r f h e = cc
-branch_runs d edge b (Assignment place target x blocking) taken r f h e = cc
+branch_runs d edge b (Assignment place target x blocking delay) taken r f h e = cc
 branch_runs d edge b (Case kind subject arms) taken r f h e = cc
 branch_runs d edge b (Then first rest) taken r f h e = cc
 

@@ -307,7 +307,7 @@ module _ (d : Design) (l : IsLawfulDesign d) where
   mutual
     statement_named : (st : Statement) → is_formed_statement d st ≡ true → Named (selector_signals d st) (selector_bits d st)
     statement_named Empty f = nothing_named
-    statement_named (Assignment place target e blocking) f = nothing_named
+    statement_named (Assignment place target e blocking delay) f = nothing_named
     statement_named (Then first rest) f =
         let p = and_both (is_formed_statement d first) (is_formed_statement d rest) f in
         both_named (selector_signals d first) (selector_signals d rest) (selector_bits d first) (selector_bits d rest) (statement_named first p.0) (statement_named rest p.1)

@@ -103,10 +103,10 @@ mutual
   -- where each bit is in its set when a statement begins, each is afterwards
   run_in : (st : Statement) (sets : Family) (s : State) (b : ℕ) → fits_statement st ≡ true → ((c : ℕ) → In sets s c) → In (lifted_body st sets) (write_all s (body st s).writes) b
   run_in Empty sets s b f h = empty_in sets s b (h b)
-  run_in (Assignment place target e true) sets s b f h =
+  run_in (Assignment place target e true delay) sets s b f h =
       let p = and_both (fits_target target) (fits e && divides_constants e) f in
       assignment_by target e sets s b p.0 (value_in e _ (sign e) sets s (and_both (fits e) (divides_constants e) p.1).0 (omega arith) (λ c d. h c)) (inl (h b))
-  run_in (Assignment place target e false) sets s b f h = empty_in sets s b (h b)
+  run_in (Assignment place target e false delay) sets s b f h = empty_in sets s b (h b)
   run_in (Then first rest) sets s b f h =
       let p = and_both (fits_statement first) (fits_statement rest) f in
       rw (write_all-append (body first s).writes (body rest (write_all s (body first s).writes)).writes s)

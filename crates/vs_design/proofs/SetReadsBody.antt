@@ -163,13 +163,13 @@ mutual
   statement_same : (st : Statement) (before : List ℕ) (f h : Family) (b : ℕ) → mixed_in false st ≡ [] → SameSets (early_reads st before) f h → SameSets before f h → SameOr f h (assigned_after st before) b → lifted_body st f b ≡ lifted_body st h b
   statement_same Empty before f h b m k l (inl q) = q
   statement_same Empty before f h b m k l (inr q) = l b q
-  statement_same (Assignment place target e true) before f h b m k l q =
+  statement_same (Assignment place target e true delay) before f h b m k l q =
       assign_same target e f h b (same_right (target_reads target) (read_bits e) f h (same_without (target_reads target ++ read_bits e) before f h k l)) (go q)
     where
       go : SameOr f h (assigns target ++ before) b → SameOr f h (assigns target) b
       go (inl r) = inl r
       go (inr r) = by_test (contains (assigns target) b) (λ e. inr e) (λ e. inl (l b (subst (λ c. (c || contains before b) ≡ true) e (sym (contains-append (assigns target) before b) ∙ r))))
-  statement_same (Assignment place target e false) before f h b m k l q = cc
+  statement_same (Assignment place target e false delay) before f h b m k l q = cc
   statement_same (Then first rest) before f h b m k l q =
       let n = append_empty (mixed_in false first) (mixed_in false rest) m in
       let early = same_left (early_reads first before) (early_reads rest (assigned_after first before)) f h k in

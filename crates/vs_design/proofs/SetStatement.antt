@@ -57,11 +57,11 @@ mutual
   pub statement_in : (st : Statement) (before : List ℕ) (sets : Family) (s : State) (b : ℕ) → fits_statement st ≡ true → mixed_in false st ≡ [] → InSets (early_reads st before) sets s → InSets before sets s → Held (assigned_after st before) sets s b → In (lifted_body st sets) (write_all s (body st s).writes) b
   statement_in Empty before sets s b f m h k (inl q) = empty_in sets s b q
   statement_in Empty before sets s b f m h k (inr q) = empty_in sets s b (k b q)
-  statement_in (Assignment place target e true) before sets s b f m h k q =
+  statement_in (Assignment place target e true delay) before sets s b f m h k q =
       let p = and_both (fits_target target) (is_fit e) f in
       let r = in_without (target_reads target ++ read_bits e) before sets s h k in
       assignment_in target e sets s b p.0 p.1 (sets_right (target_reads target) (read_bits e) sets s r) (assign_held (assigns target) before sets s b k q)
-  statement_in (Assignment place target e false) before sets s b f m h k q = cc
+  statement_in (Assignment place target e false delay) before sets s b f m h k q = cc
   statement_in (Then first rest) before sets s b f m h k q =
       let p = and_both (fits_statement first) (fits_statement rest) f in
       let n = append_empty (mixed_in false first) (mixed_in false rest) m in

@@ -10,7 +10,7 @@ use Rattle.vs_design.specs.Footprints.{contains, target_bits, statement_bits, ar
 use Rattle.vs_design.specs.Elaborated.{IsLawfulDesign}
 use Rattle.vs_design.specs.Rules.{times, driver, drivers_from, drivers, written_bits, shared_bits}
 use Rattle.vs_design.specs.Races.{blocking_bits, arms_blocking, at_once_bits}
-use Rattle.vs_design.specs.Initials.{initial_bits, starters, settled_bits, stirring_bits, late_bits, clashes, clashed_bits}
+use Rattle.vs_design.specs.Initials.{initial_bits, starters, settled_bits, stirring_bits, late_bits, early_bits, is_late_start, clashes, clashed_bits}
 use Rattle.vs_design.specs.Accepted.{is_empty}
 use Rattle.vs_design.specs.Refusals.{least, writes_at, writers, two_writers, place_at, DriverRefusal, TwoDrivers, driver_refusal_at, driver_refusal}
 use Rattle.vs_design.proofs.Lists.{by_test, and_both, contains-left, contains-right, contains_filter}
@@ -67,8 +67,8 @@ many_writers d l b =
 mutual
   blocking_written : (st : Statement) (b : ℕ) → contains (blocking_bits st) b ≡ true → contains (statement_bits st) b ≡ true
   blocking_written Empty b h = cc
-  blocking_written (Assignment place target e true) b h = h
-  blocking_written (Assignment place target e false) b h = cc
+  blocking_written (Assignment place target e true delay) b h = h
+  blocking_written (Assignment place target e false delay) b h = cc
   blocking_written (Then first rest) b h =
       split (blocking_bits first) (blocking_bits rest) b h
       (λ k. contains-left (statement_bits first) (statement_bits rest) b (blocking_written first b k))
@@ -139,15 +139,21 @@ clashed_twice : (d : Design) (b : ℕ) → contains (clashed_bits d) b ≡ true 
 clashed_twice d b h =
     let k = and_both (contains (initial_bits d.initials) b) (clashes d b) (sym (contains_filter (clashes d) (initial_bits d.initials) b) ∙ h) in
     let one = how_many_some d.initials b k.0 in
-    either (nat_lt 1 (length (starters d b)) || contains (settled_bits d.processes) b) (contains (late_bits d.initials) b && contains (stirring_bits d.processes) b) k.1
+    either (nat_lt 1 (length (starters d b)) || contains (settled_bits d.processes) b) (is_late_start d b) k.1
     (λ e. either (nat_lt 1 (length (starters d b))) (contains (settled_bits d.processes) b) e
     (λ f. let m = more (length (starters d b)) f in let n = many_starters 0 d.initials b in omega (arith, m, n))
     (λ f. let m = written_driven 0 d.processes b (settled_written d.processes b f) in omega (arith, one, m)))
-    (λ e. let m = written_driven 0 d.processes b (stirring_written d.processes b (and_both (contains (late_bits d.initials) b) (contains (stirring_bits d.processes) b) e).1) in omega (arith, one, m))
+    (λ e. let m = written_driven 0 d.processes b (late_written e) in omega (arith, one, m))
   where
     either : {P : Type 0} (x y : Bool) → (x || y) ≡ true → (x ≡ true → P) → (y ≡ true → P) → P
     either true y h f g = f refl
     either false y h f g = g h
+
+    late_written : is_late_start d b ≡ true → contains (written_bits d.processes) b ≡ true
+    late_written e =
+        either (contains (stirring_bits d.processes) b) (contains (early_bits d.initials) b && contains (written_bits d.processes) b)
+        (and_both (contains (late_bits d.initials) b) (contains (stirring_bits d.processes) b || (contains (early_bits d.initials) b && contains (written_bits d.processes) b)) e).1
+        (λ f. stirring_written d.processes b f) (λ f. (and_both (contains (early_bits d.initials) b) (contains (written_bits d.processes) b) f).1)
 
 two_there : (b : ℕ) (xs : List AnyProcess) → two_writers b xs ≡ None → length xs ≤ 1
 two_there b [] h = omega arith

@@ -12,7 +12,7 @@ use Rattle.vs_net.specs.Lawful.{times, IsSleeper, Settles}
 use Rattle.vs_net.proofs.Asleep.{times-append}
 use Rattle.vs_design.specs.Statements.{CaseKind, Statement, Empty, Assignment, Then, If, Case, Arms, Arm, Default, case_width, case_sign}
 use Rattle.vs_design.specs.Values.{own_value, value}
-use Rattle.vs_design.specs.Bodies.{last_of_each, assignment_writes, body, arms_body, is_taken}
+use Rattle.vs_design.specs.Bodies.{last_of_each, assignment_writes, body, arms_body, is_taken, updates_in}
 use Rattle.vs_design.specs.Designs.{Event, Process, Continuous, Always, is_clocked, is_combinational, Initial, Design, top_inputs}
 use Rattle.vs_design.specs.Initials.{initial_bits, IsOrderOf}
 use Rattle.vs_design.proofs.Begun.{unset}
@@ -24,6 +24,7 @@ use Rattle.vs_design.specs.Accepted.{IsAcceptedDesign}
 use Rattle.vs_design.specs.Sleepers.{most_writes, arms_most, process_most, is_once, comb_bits, is_still, stays_x, is_sleeping, sleeper_if, sleeper_of, sleeper_at}
 use Rattle.vs_design.specs.Values.{bits_of_signal}
 use Rattle.vs_design.proofs.Lists.{by_test, and_both, contains-left, contains-right}
+use Rattle.vs_design.proofs.Sorted.{times_both}
 use Rattle.vs_design.proofs.Writes.{either_way, written_last, assignment_within}
 use Rattle.vs_design.proofs.Parts.{all_at, by_kind, process_there}
 use Rattle.vs_design.proofs.Signals.{member_bits}
@@ -35,15 +36,6 @@ use Rattle.vs_design.proofs.Facts.{assign_facts, block_facts}
 use Rattle.vs_design.proofs.TimeBits.{all_of_bits, some_is}
 
 -- ---- how often a run writes a bit
-
-flatten-append : (us vs : List Update) → flatten (us ++ vs) ≡ flatten us ++ flatten vs
-unfolding flatten
-flatten-append [] vs = refl
-flatten-append (u ∷ us) vs = ap {B = List Write} (λ ws. u ++ ws) (flatten-append us vs) ∙ assoc u (flatten us) (flatten vs)
-  where
-    assoc : (xs ys zs : List Write) → xs ++ (ys ++ zs) ≡ (xs ++ ys) ++ zs
-    assoc [] ys zs = refl
-    assoc (x ∷ xs) ys zs = ap {B = List Write} (λ ws. x ∷ ws) (assoc xs ys zs)
 
 never_times : (ws : List Write) (b : ℕ) → is_written ws b ≡ false → times ws b ≤ 0
 unfolding times is_written
@@ -83,7 +75,7 @@ right_most k m n h = grind arith
 
 -- how often a run writes the bit, at once and by updates
 abbrev run_count : Effect → ℕ → ℕ
-run_count x b = times x.writes b + times (flatten x.updates) b
+run_count x b = times x.writes b + times (flatten (updates_in x)) b
 
 no_write : (b : ℕ) → times [] b ≤ 0
 unfolding times
@@ -98,15 +90,14 @@ target_times target e s b f =
 mutual
   pub run_times : (st : Statement) (s : State) (b : ℕ) → fits_statement st ≡ true → run_count (body st s) b ≤ most_writes st b
   run_times Empty s b f = let m = no_write b in let n = no_update b in omega (arith, m, n)
-  run_times (Assignment place target e true) s b f = let m = no_update b in let n = target_times target e s b (and_both (fits_target target) (is_fit e) f).0 in omega (arith, m, n)
-  run_times (Assignment place target e false) s b f = let m = no_write b in let o = one_update (assignment_writes target e s) b in let n = target_times target e s b (and_both (fits_target target) (is_fit e) f).0 in omega (arith, m, n, o)
+  run_times (Assignment place target e true delay) s b f = let m = no_update b in let n = target_times target e s b (and_both (fits_target target) (is_fit e) f).0 in omega (arith, m, n)
+  run_times (Assignment place target e false delay) s b f = let m = no_write b in let o = one_update (assignment_writes target e s) b in let n = target_times target e s b (and_both (fits_target target) (is_fit e) f).0 in omega (arith, m, n, o)
   run_times (Then first rest) s b f =
       let g = and_both (fits_statement first) (fits_statement rest) f in
       let m = run_times first s b g.0 in
       let n = run_times rest (write_all s (body first s).writes) b g.1 in
-      let a = ap (λ (ws : List Write). times ws b) (flatten-append (body first s).updates (body rest (write_all s (body first s).writes)).updates) in
-      let c = times-append (flatten (body first s).updates) (flatten (body rest (write_all s (body first s).writes)).updates) b in
-      let o = times-append (body first s).writes (body rest (write_all s (body first s).writes)).writes b in omega (arith, a, c, m, n, o)
+      let a = times_both (body first s) (body rest (write_all s (body first s).writes)) b in
+      let o = times-append (body first s).writes (body rest (write_all s (body first s).writes)).writes b in omega (arith, a, m, n, o)
   run_times (If c taken other) s b f =
       let g = and_both (is_fit c && fits_statement taken) (fits_statement other) f in
       by_test (is_one (truth (own_value c s)))
@@ -241,8 +232,8 @@ module _ (d : Design) (names : List (List ℕ)) (a : IsAcceptedDesign d names) w
     combs = λ p place star events st i c k. cc;
     clocked = λ p place star events st i c k.
         let n = once_in d.processes p place star events st s b (still_once b h) i c (block_facts d names a p place star events st i).fit in
-        let m = ap (λ (ws : List Write). times ws b) (flat_cons (body st s).writes (body st s).updates) in
-        let o = times-append (body st s).writes (flatten (body st s).updates) b in omega (arith, m, n, o);
+        let m = ap (λ (ws : List Write). times ws b) (flat_cons (body st s).writes (updates_in (body st s))) in
+        let o = times-append (body st s).writes (flatten (updates_in (body st s))) b in omega (arith, m, n, o);
     inputs = λ p i t l e f k. cc;
     clock = λ p i t l e f k. cc;
     spare = λ p i m l f named past k. cc;

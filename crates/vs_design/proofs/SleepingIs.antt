@@ -47,7 +47,7 @@ use Rattle.vs_design.proofs.Starts.{first_unset, start_unset}
 mutual
   once_same : (st : Statement) → mixed_in false st ≡ [] → at_once st ≡ st
   once_same Empty m = refl
-  once_same (Assignment place target e blocking) m = ap {B = Statement} (λ b. Assignment place target e b) (sym (blocking_is blocking place m))
+  once_same (Assignment place target e blocking delay) m = ap {B = Statement} (λ b. Assignment place target e b delay) (sym (blocking_is blocking place m))
   once_same (Then first rest) m = let n = append_empty (mixed_in false first) (mixed_in false rest) m in
       ap {B = Statement} (λ s. Then s (at_once rest)) (once_same first n.0) ∙ ap {B = Statement} (Then first) (once_same rest n.1)
   once_same (If c taken other) m = let n = append_empty (mixed_in false taken) (mixed_in false other) m in

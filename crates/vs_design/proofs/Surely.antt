@@ -27,7 +27,7 @@ module _ (d : Design) where
   mutual
     pub selector_read : (st : Statement) (b : ℕ) → contains (selector_bits d st) b ≡ true → contains (statement_reads st) b ≡ true
     selector_read Empty b h = cc
-    selector_read (Assignment place target e blocking) b h = cc
+    selector_read (Assignment place target e blocking delay) b h = cc
     selector_read (Then first rest) b h = split (selector_bits d first) (selector_bits d rest) b h
         (λ q. contains-left (statement_reads first) (statement_reads rest) b (selector_read first b q)) (λ q. contains-right (statement_reads first) (statement_reads rest) b (selector_read rest b q))
     selector_read (If c taken other) b h = contains-right (read_bits c) (statement_reads taken ++ statement_reads other) b (split (selector_bits d taken) (selector_bits d other) b h

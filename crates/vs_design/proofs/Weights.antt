@@ -1,6 +1,6 @@
 -- Each lawful network has weights, so its slots have a bound.
 use Rattle.std.proofs.Common.{◌≡◌, ℕ, zero, suc, ◌+◌, ◌*◌, ◌≤◌, ◌<◌, Bool, true, false, List, [], ◌∷◌, ◌==◌, eqb-true, eq-eqb, if◌then◌else◌, ◌⊎◌, inl, inr, refl, sym, ap, ◌∙◌, subst, length, Option, Some, None, arith}
-use Rattle.vs_net.specs.Network.{Reset, reset_of, State, Network, Kind, AnInput, TheClock, AnAssign, AComb, AClocked, kind, writes, listens, clock_net, updates, made}
+use Rattle.vs_net.specs.Network.{Reset, reset_of, State, but_delay, delayed, Network, Kind, AnInput, TheClock, AnAssign, AComb, AClocked, kind, writes, listens, clock_net, updates, made}
 use Rattle.vs_net.specs.Lawful.{Settles, IsOrdered, IsLawful}
 use Rattle.vs_net.proofs.Nets.{Family, IsInput, IsPort, nets, net_writer, port_of, clock_net_family, reset_net_family, reset_clocked}
 use Rattle.vs_net.proofs.Counted.{extra}
@@ -50,6 +50,7 @@ module _ (n : Network) (L : IsLawful n) (feeds : ℕ → ℕ → Bool) (size : �
     (fed : (p q b : ℕ) → listens (n.process p) b ≡ true → writes (n.process q) b ≡ true → feeds q p ≡ true)
     (fed_only : (p q : ℕ) → feeds q p ≡ true → (b : ℕ) × (listens (n.process p) b ≡ true) × (writes (n.process q) b ≡ true))
     (few : (p : ℕ) (s : State) → kind (n.process p) ≡ AClocked → written_at_once (made (n.process p) s) + length (updates (n.process p) s) ≤ size p)
+    (prompt : (p : ℕ) (s : State) → kind (n.process p) ≡ AClocked → n.delays p ≡ false → but_delay 0 (delayed (n.process p) s) ≡ [])
     (mastered : (p : ℕ) → kind (n.process p) ≡ AClocked → writes (n.process (master p)) (clock_net (n.process p)) ≡ true)
     (second : ℕ → ℕ) (seconded : (p : ℕ) (r : Reset) → reset_of (n.process p) ≡ Some r → writes (n.process (second p)) r.net ≡ true) where
   abbrev weigh : Kind → (ℕ → ℕ) → ℕ → ℕ
@@ -204,6 +205,7 @@ module _ (n : Network) (L : IsLawful n) (feeds : ℕ → ℕ → Bool) (size : �
     fed = fed;
     fed_only = fed_only;
     few = few;
+    prompt = prompt;
     input = λ p e. weight_is p AnInput e;
     clock = λ p e. weight_is p TheClock e;
     assign = λ p e. weight_is p AnAssign e;

@@ -289,7 +289,7 @@ mutual
 
   pub statement_clear : (d : Design) (st : Statement) (at : ℕ) → is_formed_statement d st ≡ true → wide_in_statement at st ≡ [] → divisions_in_statement at st ≡ [] → fits_statement st ≡ true
   statement_clear d Empty at f h k = refl
-  statement_clear d (Assignment place target e blocking) at f h k =
+  statement_clear d (Assignment place target e blocking delay) at f h k =
       let p = and_both (is_formed_target d is_variable target) (is_formed d e) f in
       let a = append_empty (over_64 place (target_width target)) (wide_in_indices place target ++ wide_places place e) h in
       let b = append_empty (wide_in_indices place target) (wide_places place e) a.1 in
@@ -421,7 +421,7 @@ mutual
 
   pub statement_narrow : (st : Statement) (at : ℕ) → fits_statement st ≡ true → wide_in_statement at st ≡ []
   statement_narrow Empty at h = refl
-  statement_narrow (Assignment place target e blocking) at h =
+  statement_narrow (Assignment place target e blocking delay) at h =
       let p = and_both (fits_target target) (is_fit e) h in
       empty_append _ _ (is_over place (target_width target) (target_most target p.0)) (empty_append _ _ (indices_narrow target place p.0) (fits_narrow e place (and_both (fits e) (divides_constants e) p.1).0))
   statement_narrow (Then first rest) at h = let p = and_both (fits_statement first) (fits_statement rest) h in empty_append _ _ (statement_narrow first at p.0) (statement_narrow rest at p.1)
@@ -498,7 +498,7 @@ mutual
 
   pub statement_undivided : (st : Statement) (at : ℕ) → fits_statement st ≡ true → divisions_in_statement at st ≡ []
   statement_undivided Empty at h = refl
-  statement_undivided (Assignment place target e blocking) at h =
+  statement_undivided (Assignment place target e blocking delay) at h =
       let p = and_both (fits_target target) (is_fit e) h in
       let q = and_both (fits e) (divides_constants e) p.1 in
       empty_append _ _ (indices_undivided target place p.0) (divides_none e place q.0 q.1)
@@ -535,7 +535,7 @@ wide_items (Item e es) at = ap {B = List ℕ} (λ ns. wide_places at e ++ ns) (w
 mutual
   pub wide_statement : (st : Statement) (at : ℕ) → in_statement wide_places over_64 at st ≡ wide_in_statement at st
   wide_statement Empty at = refl
-  wide_statement (Assignment place target e blocking) at = ap {B = List ℕ} (λ ns. over_64 place (target_width target) ++ (ns ++ wide_places place e)) (wide_indices target place)
+  wide_statement (Assignment place target e blocking delay) at = ap {B = List ℕ} (λ ns. over_64 place (target_width target) ++ (ns ++ wide_places place e)) (wide_indices target place)
   wide_statement (Then first rest) at = ap {B = List ℕ} (λ ns. ns ++ in_statement wide_places over_64 at rest) (wide_statement first at) ∙ ap {B = List ℕ} (λ ns. wide_in_statement at first ++ ns) (wide_statement rest at)
   wide_statement (If c taken other) at =
       ap {B = List ℕ} (λ ns. wide_places at c ++ (ns ++ in_statement wide_places over_64 at other)) (wide_statement taken at) ∙ ap {B = List ℕ} (λ ns. wide_places at c ++ (wide_in_statement at taken ++ ns)) (wide_statement other at)
@@ -563,7 +563,7 @@ divided_items (Item e es) at = ap {B = List ℕ} (λ ns. division_places at e ++
 mutual
   pub divided_statement : (st : Statement) (at : ℕ) → in_statement division_places (λ at n. []) at st ≡ divisions_in_statement at st
   divided_statement Empty at = refl
-  divided_statement (Assignment place target e blocking) at = ap {B = List ℕ} (λ ns. (ns ++ division_places place e)) (divided_indices target place)
+  divided_statement (Assignment place target e blocking delay) at = ap {B = List ℕ} (λ ns. (ns ++ division_places place e)) (divided_indices target place)
   divided_statement (Then first rest) at = ap {B = List ℕ} (λ ns. ns ++ in_statement division_places (λ at n. []) at rest) (divided_statement first at) ∙ ap {B = List ℕ} (λ ns. divisions_in_statement at first ++ ns) (divided_statement rest at)
   divided_statement (If c taken other) at =
       ap {B = List ℕ} (λ ns. division_places at c ++ (ns ++ in_statement division_places (λ at n. []) at other)) (divided_statement taken at) ∙ ap {B = List ℕ} (λ ns. division_places at c ++ (divisions_in_statement at taken ++ ns)) (divided_statement other at)

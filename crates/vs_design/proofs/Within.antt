@@ -103,7 +103,7 @@ target_is_within d h allowed (Both high low) f =
 mutual
   pub statement_is_within : StatementIsWithin
   statement_is_within d h Empty f = refl
-  statement_is_within d h (Assignment place target e blocking) f =
+  statement_is_within d h (Assignment place target e blocking delay) f =
       let p = and_both (is_formed_target d is_variable target) (is_formed d e) f in
       and_true _ _ (target_is_within d h is_variable target p.0) (formed_is_within d h e p.1)
   statement_is_within d h (Then first rest) f =

@@ -5,7 +5,7 @@ use Rattle.vs_four.specs.Logic.{BitList}
 use Rattle.vs_design.specs.Expressions.{Expression, Items}
 use Rattle.vs_design.specs.Statements.{Target, target_width, CaseKind}
 use Rattle.vs_design.specs.Values.{any_matches, item_values, assigned_value}
-pub use Rattle.vs_design.specs.Effects.{bits_at, pair_up, last_of_each, effect_of, no_effect, both_effects}
+pub use Rattle.vs_design.specs.Effects.{bits_at, pair_up, last_of_each, effect_of, updates_in, no_effect, both_effects}
 pub use Rattle.vs_design.specs.Values.{target_writes, body, arms_body}
 
 -- the writes of one assignment

@@ -11,7 +11,7 @@ use Rattle.vs_design.specs.Networks.{network_of}
 abbrev mutual
   pub assignments : Statement → ℕ
   assignments Empty = 0
-  assignments (Assignment place target e blocking) = 1
+  assignments (Assignment place target e blocking delay) = 1
   assignments (Then first rest) = assignments first + assignments rest
   assignments (If c taken other) = assignments taken + assignments other
   assignments (Case kind subject arms) = arms_assignments arms

@@ -32,7 +32,7 @@ target_calls (Both high low) = target_calls high || target_calls low
 abbrev mutual
   pub statement_calls : Statement → Bool
   statement_calls Empty = false
-  statement_calls (Assignment place target e blocking) = target_calls target || calls e
+  statement_calls (Assignment place target e blocking delay) = target_calls target || calls e
   statement_calls (Then first rest) = statement_calls first || statement_calls rest
   statement_calls (If c taken other) = calls c || statement_calls taken || statement_calls other
   statement_calls (Case kind subject arms) = calls subject || arms_call arms

@@ -1,6 +1,6 @@
 -- Writes, and what a statement leaves (IEEE 1364-2005, 9.2).
 use Rattle.std.specs.Prelude.{ℕ, ◌+◌, Bool, true, false, List, [], ◌∷◌, ◌++◌, map, if◌then◌else◌, Option, Some, None, option_map}
-use Rattle.vs_net.specs.Network.{Write, is_written, Effect}
+use Rattle.vs_net.specs.Network.{Write, Update, is_written, by_delay, undelayed, Effect}
 use Rattle.vs_four.specs.Logic.{BitList}
 use Rattle.vs_design.specs.Trees.{Signal}
 
@@ -21,9 +21,13 @@ last_of_each [] = []
 last_of_each (w ∷ ws) = if is_written ws w.bit then last_of_each ws else (w ∷ last_of_each ws)
 
 -- a blocking assignment writes at once, a nonblocking one leaves one update with its values fixed now (9.2.2)
-abbrev pub effect_of : Bool → List Write → Effect
-effect_of true ws = record { writes = ws; updates = [] }
-effect_of false ws = record { writes = []; updates = ws ∷ [] }
+abbrev pub effect_of : (blocking : Bool) → (delay : ℕ) → List Write → Effect
+effect_of true delay ws = record { writes = ws; updates = [] }
+effect_of false delay ws = record { writes = []; updates = record { delay = delay; update = ws } ∷ [] }
+
+-- its updates in the order in which they are applied: those of a smaller delay first
+abbrev pub updates_in : Effect → List Update
+updates_in x = undelayed (by_delay x.updates)
 
 abbrev pub no_effect : Effect
 no_effect = record { writes = []; updates = [] }

@@ -170,7 +170,7 @@ abbrev mutual
   -- a block writes variables (table 6-1)
   pub is_formed_statement : Design → Statement → Bool
   is_formed_statement d Empty = true
-  is_formed_statement d (Assignment place target e blocking) = is_formed_target d is_variable target && is_formed d e
+  is_formed_statement d (Assignment place target e blocking delay) = is_formed_target d is_variable target && is_formed d e
   is_formed_statement d (Then first rest) = is_formed_statement d first && is_formed_statement d rest
   is_formed_statement d (If c taken other) = is_formed d c && is_formed_statement d taken && is_formed_statement d other
   is_formed_statement d (Case kind subject arms) = is_formed d subject && are_formed_arms d arms
@@ -192,7 +192,7 @@ is_wordless _ = true
 abbrev mutual
   pub writes_no_word : Statement → Bool
   writes_no_word Empty = true
-  writes_no_word (Assignment place target e blocking) = is_wordless target
+  writes_no_word (Assignment place target e blocking delay) = is_wordless target
   writes_no_word (Then first rest) = writes_no_word first && writes_no_word rest
   writes_no_word (If c taken other) = writes_no_word taken && writes_no_word other
   writes_no_word (Case kind subject arms) = arms_write_no_word arms

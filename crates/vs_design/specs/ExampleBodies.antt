@@ -6,7 +6,7 @@ use Rattle.vs_four.specs.Selects.{Part, one_bit}
 use Rattle.vs_net.specs.Network.{State, Write, write_all}
 use Rattle.vs_design.specs.Expressions.{Signal, Expression, Name, items_of}
 use Rattle.vs_design.specs.Statements.{Whole, PartOf, Both, CaseKind, Exact, CaseZ, CaseX, Empty, Assignment, Then, If, Case, Arm, Default}
-use Rattle.vs_design.specs.Bodies.{body}
+use Rattle.vs_design.specs.Bodies.{body, updates_in}
 use Rattle.vs_design.specs.Footprints.{reads_of, writes_of, waits_of}
 use Rattle.vs_design.specs.Rules.{latches}
 use Rattle.vs_design.specs.Designs.{Design}
@@ -41,7 +41,7 @@ matched kind subject item = write_all all_unknown (body (Case kind subject (Arm 
 
 -- the writes of `2'b11` to a part of q
 abbrev pub into : Part → Expression → List Write
-into part index = (body (Assignment 0 (PartOf q part index) (dec 2 3) true) all_unknown).writes
+into part index = (body (Assignment 0 (PartOf q part index) (dec 2 3) true 0) all_unknown).writes
 
 pub record BodiesComputed : Type 0 where
   -- `casez` of `2'b1z` against the item `2'b11` matches
@@ -56,7 +56,7 @@ pub record BodiesComputed : Type 0 where
   -- `if (1'bx)` takes its other branch
   pub if_unknown : (body (If (lit (X ∷ [])) (blocking 0 y (dec 1 1)) (blocking 0 y (dec 1 0))) all_unknown).writes ≡ record { bit = 0; value = Zero } ∷ []
   -- `{y, y} = 2'b10` writes its bit once, with the value of the last part
-  pub shared : (body (Assignment 0 (Both (Whole y) (Whole y)) (dec 2 2) true) all_unknown).writes ≡ record { bit = 0; value = Zero } ∷ []
+  pub shared : (body (Assignment 0 (Both (Whole y) (Whole y)) (dec 2 2) true 0) all_unknown).writes ≡ record { bit = 0; value = Zero } ∷ []
   -- a write partly out of range changes the bits in range
   pub write_over_the_end : into (upward (range_of 3 0) 2) (dec 2 3) ≡ record { bit = 5; value = One } ∷ []
   pub write_below : into (upward (range_of 3 0) 2) (sdec 2 3) ≡ record { bit = 2; value = One } ∷ []
@@ -65,19 +65,19 @@ pub record BodiesComputed : Type 0 where
   -- a later assignment sees what an earlier one wrote
   pub in_order : (body (Then (blocking 0 y (dec 1 1)) (blocking 0 z (Name y))) all_unknown).writes ≡ record { bit = 0; value = One } ∷ record { bit = 1; value = One } ∷ []
   -- of nonblocking ones the values are fixed before any of them is written
-  pub fixed_now : (body (Then (nonblocking 0 y (dec 1 1)) (nonblocking 0 z (Name y))) all_unknown).updates ≡ (record { bit = 0; value = One } ∷ []) ∷ (record { bit = 1; value = X } ∷ []) ∷ []
+  pub fixed_now : updates_in (body (Then (nonblocking 0 y (dec 1 1)) (nonblocking 0 z (Name y))) all_unknown) ≡ (record { bit = 0; value = One } ∷ []) ∷ (record { bit = 1; value = X } ∷ []) ∷ []
   -- also where the index is a constant of an assign's target
   pub target_unknown : writes_of (assign 0 (PartOf w_wide (one_bit (range_of 3 0)) (lit (X ∷ []))) (dec 1 1)) ≡ []
   -- `@*` waits on a signal that is read, also where no bit of it is in range
   pub star_out_of_range : waits_of (on_star 0 (blocking 0 y (bit q 3 (dec 4 9)))) ≡ 2 ∷ 3 ∷ 4 ∷ 5 ∷ []
   pub reads_out_of_range : reads_of (on_star 0 (blocking 0 y (bit q 3 (dec 4 9)))) ≡ []
   -- and on the index of a target, and not on what is a target alone
-  pub star_index : waits_of (on_star 0 (Assignment 0 (PartOf q (one_bit (range_of 3 0)) (Name y)) (Name z) true)) ≡ 0 ∷ 1 ∷ []
+  pub star_index : waits_of (on_star 0 (Assignment 0 (PartOf q (one_bit (range_of 3 0)) (Name y)) (Name z) true 0)) ≡ 0 ∷ 1 ∷ []
   -- a select by a constant index reads its bit, by another all of the signal
   pub reads_constant : reads_of (assign 0 (Whole w) (bit q 3 (dec 2 1))) ≡ 3 ∷ []
   pub reads_variable : reads_of (assign 0 (Whole w) (bit q 3 (Name y))) ≡ 2 ∷ 3 ∷ 4 ∷ 5 ∷ 0 ∷ []
   -- a write by a variable index doesn't assign, and each branch is a path
-  pub latch_variable : latches no_process (on_star 0 (Assignment 0 (PartOf q (one_bit (range_of 3 0)) (Name y)) (Name z) true)) ≡ 2 ∷ 3 ∷ 4 ∷ 5 ∷ []
+  pub latch_variable : latches no_process (on_star 0 (Assignment 0 (PartOf q (one_bit (range_of 3 0)) (Name y)) (Name z) true 0)) ≡ 2 ∷ 3 ∷ 4 ∷ 5 ∷ []
   pub latch_branch : latches no_process (on_star 0 (If (Name z) (blocking 0 y (dec 1 1)) Empty)) ≡ 0 ∷ []
   pub latch_read : latches no_process (on_star 0 (Then (blocking 0 y (Name y)) (blocking 0 y (dec 1 1)))) ≡ 0 ∷ 0 ∷ []
   pub latch_none : latches no_process (on_star 0 (Then (blocking 0 y (dec 1 0)) (If (Name z) (blocking 0 y (dec 1 1)) Empty))) ≡ []

@@ -44,6 +44,16 @@ toggled = with_initials toggling (initial_at 45 0 (blocking 45 q1 (dec 1 0)) ∷
 abbrev pub set_late : Design
 set_late = with_initials toggling (initial_at 92 1 (nonblocking 100 q1 (dec 1 1)) ∷ [])
 
+-- `initial begin q = 1'b0; q <= 1'b1; end`, beside the block and alone
+abbrev pub both_ways : Initial
+both_ways = initial_at 30 0 (Then (blocking 44 q1 (dec 1 0)) (nonblocking 54 q1 (dec 1 1)))
+
+abbrev pub set_both_ways : Design
+set_both_ways = with_initials toggling (both_ways ∷ [])
+
+abbrev pub both_ways_alone : Design
+both_ways_alone = with_initials (design_of (clk_signal ∷ q1 ∷ []) []) (both_ways ∷ [])
+
 -- `reg k = 1'b1; assign y = a & k;`
 abbrev pub k2 : Signal
 k2 = reg_of (codes "k") 2 None 2
@@ -66,7 +76,7 @@ swapped = with_initials (design_of (clk_signal ∷ q1 ∷ t2 ∷ []) (on_posedge
 
 -- `initial m[1] = 2'd2;` of the memory of words of two bits
 abbrev pub stored : Design
-stored = with_initials store (initial_at 90 0 (Assignment 98 (WordOf m8 (dec 2 1)) (dec 2 2) true) ∷ [])
+stored = with_initials store (initial_at 90 0 (Assignment 98 (WordOf m8 (dec 2 1)) (dec 2 2) true 0) ∷ [])
 
 -- initial processes between others
 abbrev pub between : Design
@@ -157,5 +167,8 @@ pub record InitialsComputed : Type 0 where
   pub set_twice_refused : driver_refusal set_twice ≡ Some (TwoWriters 1 (OfInitial 0 start_q) (OfInitial 1 again_q))
   pub late_refused : driver_refusal (copying late_q) ≡ Some (TwoWriters 2 (OfInitial 0 late_q) (OfProcess 0 copy_d))
   pub soon_passes : driver_refusal (copying soon_q) ≡ None
+  -- by `=` and by `<=`, beside a clocked block and alone
+  pub both_ways_refused : driver_refusal set_both_ways ≡ Some (TwoWriters 1 (OfInitial 0 both_ways) (OfProcess 0 (on_posedge 60 clk_signal (nonblocking 82 q1 (Unary BitNot (Name q1))))))
+  pub both_ways_passes : driver_refusal both_ways_alone ≡ None
   -- whether the block runs in slot 0 is free
   pub unsure_refused : zero_refusal unsure clk ≡ Some (TimeZero 1 90)

@@ -45,7 +45,7 @@ abbrev pub m8 : Signal
 m8 = memory_of (codes "m") 5 (to_zero 1) 0 3 8
 
 abbrev pub write_m : Process
-write_m = on_posedge 104 clk_signal (If (Name w1) (Assignment 131 (WordOf m8 (Name a2)) (Name d4) false) Empty)
+write_m = on_posedge 104 clk_signal (If (Name w1) (Assignment 131 (WordOf m8 (Name a2)) (Name d4) false 0) Empty)
 
 abbrev pub store : Design
 store = design_of (clk_signal ∷ w1 ∷ a2 ∷ d4 ∷ q6 ∷ m8 ∷ []) (write_m ∷ assign 145 (Whole q6) (Word m8 (Name a2)) ∷ [])
@@ -107,7 +107,7 @@ abbrev pub named_m : Process
 named_m = Always 104 false (record { signal = m8; edge = Any } ∷ []) (blocking 114 y2 (Name a2))
 
 abbrev pub comb_m : Process
-comb_m = on_star 104 (Assignment 114 (WordOf m8 (dec 2 0)) (Name d4) true)
+comb_m = on_star 104 (Assignment 114 (WordOf m8 (dec 2 0)) (Name d4) true 0)
 
 pub record MemoriesComputed : Type 0 where
   -- words by ascending address, whichever bound was written first; none at an address out of range, below 0 or unknown

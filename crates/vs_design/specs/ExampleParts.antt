@@ -71,10 +71,10 @@ downward range width = record { range = range; up = false; width = width }
 -- ---- statements, processes and designs, with the places where they begin
 
 abbrev pub blocking : ℕ → Signal → Expression → Statement
-blocking place s e = Assignment place (Whole s) e true
+blocking place s e = Assignment place (Whole s) e true 0
 
 abbrev pub nonblocking : ℕ → Signal → Expression → Statement
-nonblocking place s e = Assignment place (Whole s) e false
+nonblocking place s e = Assignment place (Whole s) e false 0
 
 abbrev pub assign : ℕ → Target → Expression → Process
 assign place t e = Continuous place Written place t e

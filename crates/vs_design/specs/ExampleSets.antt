@@ -67,4 +67,4 @@ pub record SetsComputed : Type 0 where
   pub case_ends : lifted_body (Case Exact (dec 1 1) (Arm (items_of (dec 1 1 ∷ [])) (blocking 0 target (dec 1 1)) (Default (blocking 0 target (dec 1 0))))) known_family 6 ≡ only One
   pub case_open : lifted_body (Case Exact (Name scalar) (Arm (items_of (dec 1 1 ∷ [])) (blocking 0 target (dec 1 1)) (Default (blocking 0 target (lit (Z ∷ [])))))) known_family 6 ≡ union (only One) (only Z)
   -- a write by a variable index keeps the old sets too
-  pub write_variable : lifted_body (Assignment 0 (PartOf two_bits (one_bit (range_of 1 0)) (Name scalar)) (lit (Z ∷ [])) true) known_family 1 ≡ any_value_but_x
+  pub write_variable : lifted_body (Assignment 0 (PartOf two_bits (one_bit (range_of 1 0)) (Name scalar)) (lit (Z ∷ [])) true 0) known_family 1 ≡ any_value_but_x

@@ -40,14 +40,14 @@ abbrev pub q6 : Signal
 q6 = wire_of (codes "q") 4 (to_zero 1) 6
 
 abbrev pub store_next : Process
-store_next = on_posedge 104 clk_signal (If (Name w1) (Then (Assignment 131 (WordOf m8 (Name a2)) (Name d4) true) (Assignment 141 (WordOf m8 (Name a2)) (next (word_at (Name a2))) true)) Empty)
+store_next = on_posedge 104 clk_signal (If (Name w1) (Then (Assignment 131 (WordOf m8 (Name a2)) (Name d4) true 0) (Assignment 141 (WordOf m8 (Name a2)) (next (word_at (Name a2))) true 0)) Empty)
 
 abbrev pub stepped : Design
 stepped = design_with (next_function ∷ []) (clk_signal ∷ w1 ∷ a2 ∷ d4 ∷ q6 ∷ m8 ∷ []) (store_next ∷ assign 165 (Whole q6) (next (word_at (Name a2))) ∷ [])
 
 -- the same with one update, `if (w) m[a] <= next(d);`
 abbrev pub stored : Design
-stored = design_with (next_function ∷ []) (clk_signal ∷ w1 ∷ a2 ∷ d4 ∷ q6 ∷ m8 ∷ []) (on_posedge 104 clk_signal (If (Name w1) (Assignment 131 (WordOf m8 (Name a2)) (next (Name d4)) false) Empty) ∷ assign 165 (Whole q6) (next (word_at (Name a2))) ∷ [])
+stored = design_with (next_function ∷ []) (clk_signal ∷ w1 ∷ a2 ∷ d4 ∷ q6 ∷ m8 ∷ []) (on_posedge 104 clk_signal (If (Name w1) (Assignment 131 (WordOf m8 (Name a2)) (next (Name d4)) false 0) Empty) ∷ assign 165 (Whole q6) (next (word_at (Name a2))) ∷ [])
 
 -- another clocked block reads the memory: `always @(posedge clk) r = next(m[a]);`
 abbrev pub r16 : Signal

@@ -38,7 +38,7 @@ m5 = memory_of (codes "m") 4 (to_zero 1) 0 1 5
 
 abbrev pub lowest : Design
 lowest = design_of (clk_signal ∷ w1 ∷ d2 ∷ q4 ∷ m5 ∷ [])
-    (on_posedge 84 clk_signal (Assignment 104 (WordPartOf m5 (Name w1) one (plain 0)) (bit d2 1 (plain 0)) false) ∷ assign 121 (Whole q4) (WordPart m5 (Name w1) one (plain 0)) ∷ [])
+    (on_posedge 84 clk_signal (Assignment 104 (WordPartOf m5 (Name w1) one (plain 0)) (bit d2 1 (plain 0)) false 0) ∷ assign 121 (Whole q4) (WordPart m5 (Name w1) one (plain 0)) ∷ [])
 
 -- `1 01` and `0 00`, as values of clk, w and d
 abbrev pub first_line : BitList
@@ -86,7 +86,7 @@ pub record WordPartsComputed : Type 0 where
   pub a_part : is_formed store (WordPart m8 (dec 2 1) one (dec 1 0)) ≡ true
   pub no_memory : is_formed store (WordPart a2 (dec 2 1) one (dec 1 0)) ≡ false
   pub other_range : is_formed store (WordPart m8 (dec 2 1) (one_bit (range_of 2 0)) (dec 1 0)) ≡ false
-  pub no_comb : has_clocked_words (on_star 104 (Assignment 114 (WordPartOf m8 (dec 2 0) one (dec 1 0)) (Name w1) true)) ≡ false
+  pub no_comb : has_clocked_words (on_star 104 (Assignment 114 (WordPartOf m8 (dec 2 0) one (dec 1 0)) (Name w1) true 0)) ≡ false
   -- the design: bits clk, w, d, q, m
   pub lowest_size : size lowest ≡ 38
   pub lowest_accepted : IsAcceptedDesign lowest clk

@@ -72,7 +72,7 @@ abbrev mutual
 
   pub fits_statement : Statement → Bool
   fits_statement Empty = true
-  fits_statement (Assignment place target e blocking) = fits_target target && (fits e && divides_constants e)
+  fits_statement (Assignment place target e blocking delay) = fits_target target && (fits e && divides_constants e)
   fits_statement (Then first rest) = fits_statement first && fits_statement rest
   fits_statement (If c taken other) = (fits c && divides_constants c) && fits_statement taken && fits_statement other
   fits_statement (Case kind subject arms) = (fits subject && divides_constants subject) && fits_arms arms

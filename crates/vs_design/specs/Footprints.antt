@@ -106,7 +106,7 @@ target_signals (Both high low) = target_signals high ++ target_signals low
 abbrev mutual
   pub statement_reads : Statement → List ℕ
   statement_reads Empty = []
-  statement_reads (Assignment place target e blocking) = target_reads target ++ read_bits e
+  statement_reads (Assignment place target e blocking delay) = target_reads target ++ read_bits e
   statement_reads (Then first rest) = statement_reads first ++ statement_reads rest
   statement_reads (If c taken other) = read_bits c ++ (statement_reads taken ++ statement_reads other)
   statement_reads (Case kind subject arms) = read_bits subject ++ arms_reads arms
@@ -118,7 +118,7 @@ abbrev mutual
 abbrev mutual
   pub statement_signals : Statement → List Signal
   statement_signals Empty = []
-  statement_signals (Assignment place target e blocking) = target_signals target ++ read_signals e
+  statement_signals (Assignment place target e blocking delay) = target_signals target ++ read_signals e
   statement_signals (Then first rest) = statement_signals first ++ statement_signals rest
   statement_signals (If c taken other) = read_signals c ++ (statement_signals taken ++ statement_signals other)
   statement_signals (Case kind subject arms) = read_signals subject ++ arms_signals arms
@@ -130,7 +130,7 @@ abbrev mutual
 abbrev mutual
   pub statement_bits : Statement → List ℕ
   statement_bits Empty = []
-  statement_bits (Assignment place target e blocking) = target_bits target
+  statement_bits (Assignment place target e blocking delay) = target_bits target
   statement_bits (Then first rest) = statement_bits first ++ statement_bits rest
   statement_bits (If c taken other) = statement_bits taken ++ statement_bits other
   statement_bits (Case kind subject arms) = arms_bits arms

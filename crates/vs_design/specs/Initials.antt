@@ -5,13 +5,14 @@ use Rattle.vs_four.specs.declared.Bit4.TheVariants.{X, Z}
 use Rattle.vs_net.specs.Network.{State, Write, Update, write_all, flatten}
 use Rattle.vs_design.specs.Designs.{Process, is_clocked, Initial, Design}
 use Rattle.vs_design.specs.Footprints.{contains, statement_bits, writes_of, net_bits, without}
-use Rattle.vs_design.specs.Races.{at_once_bits, nonblocking_bits}
+use Rattle.vs_design.specs.Races.{at_once_bits, blocking_bits, nonblocking_bits}
+use Rattle.vs_design.specs.Delays.{has_delays}
 use Rattle.vs_design.specs.Resets.{is_fixed, branch_writes, branch_updates}
 use Rattle.vs_design.specs.Rules.{written_bits}
 
--- the rule InitialForm: the statement names a signal that isn't a target, or calls a function, or a target of it has an index that isn't constant
+-- the rule InitialForm: the statement names a signal that isn't a target, or calls a function, or a target of it has an index that isn't constant, or a `<=` of it has a delay
 abbrev pub has_other_start : Initial → Bool
-has_other_start i = not (is_fixed i.statement)
+has_other_start i = not (is_fixed i.statement) || has_delays i.statement
 
 -- what it writes at once, and what it gives by updates; it reads nothing
 abbrev pub initial_writes : Initial → List Write
@@ -54,9 +55,18 @@ abbrev pub late_bits : List Initial → List ℕ
 late_bits [] = []
 late_bits (i ∷ is) = nonblocking_bits i.statement ++ late_bits is
 
--- an initial process writes the bit beside another one, beside an assign or a combinational block, or by `<=` beside a clocked block that writes it by `=`
+-- and those that they write by `=`
+abbrev pub early_bits : List Initial → List ℕ
+early_bits [] = []
+early_bits (i ∷ is) = blocking_bits i.statement ++ early_bits is
+
+-- an initial process writes the bit by `<=`, beside a clocked block that writes it by `=`, or by `=` too, beside any block
+abbrev pub is_late_start : Design → ℕ → Bool
+is_late_start d b = contains (late_bits d.initials) b && (contains (stirring_bits d.processes) b || (contains (early_bits d.initials) b && contains (written_bits d.processes) b))
+
+-- an initial process writes the bit beside another one, or beside an assign or a combinational block, or late
 abbrev pub clashes : Design → ℕ → Bool
-clashes d b = nat_lt 1 (length (starters d b)) || contains (settled_bits d.processes) b || (contains (late_bits d.initials) b && contains (stirring_bits d.processes) b)
+clashes d b = nat_lt 1 (length (starters d b)) || contains (settled_bits d.processes) b || is_late_start d b
 
 abbrev pub clashed_bits : Design → List ℕ
 clashed_bits d = filter (clashes d) (initial_bits d.initials)

@@ -21,7 +21,7 @@ common bs cs = filter (contains cs) bs
 abbrev mutual
   pub assigned_after : Statement → List ℕ → List ℕ
   assigned_after Empty before = before
-  assigned_after (Assignment place target e blocking) before = assigns target ++ before
+  assigned_after (Assignment place target e blocking delay) before = assigns target ++ before
   assigned_after (Then first rest) before = assigned_after rest (assigned_after first before)
   assigned_after (If c taken other) before = common (assigned_after taken before) (assigned_after other before)
   assigned_after (Case kind subject arms) before = assigned_in_arms arms before
@@ -34,7 +34,7 @@ abbrev mutual
 abbrev mutual
   pub early_reads : Statement → List ℕ → List ℕ
   early_reads Empty before = []
-  early_reads (Assignment place target e blocking) before = without (target_reads target ++ read_bits e) before
+  early_reads (Assignment place target e blocking delay) before = without (target_reads target ++ read_bits e) before
   early_reads (Then first rest) before = early_reads first before ++ early_reads rest (assigned_after first before)
   early_reads (If c taken other) before = without (read_bits c) before ++ (early_reads taken before ++ early_reads other before)
   early_reads (Case kind subject arms) before = without (read_bits subject) before ++ early_in_arms arms before

@@ -25,6 +25,7 @@ pub mod Fits
 pub mod Elaborated
 pub mod Within
 pub mod Accepted
+pub mod Delays
 pub mod Refusals
 pub mod Cycles
 pub mod Equations
@@ -42,6 +43,7 @@ pub mod TreeLaws
 pub mod FullLaws
 pub mod Laws
 pub mod RefusalLaws
+pub mod DelayLaws
 pub mod ExampleParts
 pub mod ExampleElaborated
 pub mod ExampleValues
@@ -57,4 +59,5 @@ pub mod ExampleWordParts
 pub mod ExampleTogether
 pub mod ExampleInitials
 pub mod ExampleSelects
+pub mod ExampleDelays
 pub mod PlaceLaws

@@ -162,8 +162,8 @@ abbrev mutual
   -- the sets after a statement with blocking assignments; branches start from the same sets
   pub lifted_body : Statement → Family → Family
   lifted_body Empty sets = sets
-  lifted_body (Assignment place target e true) sets = write_sets target (cut (target_width target) (lifted e (max (width e) (target_width target)) (sign e) sets)) sets
-  lifted_body (Assignment place target e false) sets = sets
+  lifted_body (Assignment place target e true delay) sets = write_sets target (cut (target_width target) (lifted e (max (width e) (target_width target)) (sign e) sets)) sets
+  lifted_body (Assignment place target e false delay) sets = sets
   lifted_body (Then first rest) sets = lifted_body rest (lifted_body first sets)
   lifted_body (If c taken other) sets = join_branches (set_or (lifted c (width c) (sign c) sets)) (lifted_body taken sets) (lifted_body other sets)
   lifted_body (Case kind subject arms) sets =

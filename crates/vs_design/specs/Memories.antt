@@ -9,7 +9,7 @@ use Rattle.vs_net.specs.Solution.{reset_effects, beginning, IsSolution}
 use Rattle.vs_design.specs.Expressions.{Signal, word_length, addresses}
 use Rattle.vs_design.specs.Values.{count_from, read}
 use Rattle.vs_design.specs.Statements.{Statement}
-use Rattle.vs_design.specs.Bodies.{body}
+use Rattle.vs_design.specs.Bodies.{body, updates_in}
 use Rattle.vs_design.specs.Designs.{Process, Continuous, Always, is_clocked, Design}
 use Rattle.vs_design.specs.Footprints.{is_stored}
 use Rattle.vs_design.specs.Resets.{reset_of}
@@ -25,7 +25,7 @@ word_bits s n = count_from (s.first + n * word_length s) (word_length s)
 -- what a clocked block gives in a slot, its blocking writes and then its updates: where the clock rises that of its statement, on the values at the end of the slot before, and where it falls that of its reset branch, where its reset input is active
 abbrev pub block_effects : Option N.Reset → Statement → Slot → State → List Update
 block_effects reset st (Fall vector) before = reset_effects reset vector
-block_effects reset st Rise before = (body st before).writes ∷ (body st before).updates
+block_effects reset st Rise before = (body st before).writes ∷ updates_in (body st before)
 
 abbrev pub effects_if : Bool → Option N.Reset → Statement → Slot → State → List Update
 effects_if true reset st slot before = block_effects reset st slot before

@@ -1,5 +1,5 @@
 -- A design as a network of processes, on which the event queue runs (IEEE 1364-2005, 11.3 and 11.4).
-use Rattle.std.specs.Prelude.{ℕ, zero, suc, Bool, true, false, List, [], ◌∷◌, ◌++◌, map, filter, length, if◌then◌else◌, not, nat_lt, Option, None}
+use Rattle.std.specs.Prelude.{ℕ, zero, suc, Bool, true, false, List, [], ◌∷◌, ◌++◌, map, filter, length, if◌then◌else◌, not, nat_lt, Option, Some, None, slice_get}
 use Rattle.std.specs.List.{flat_map}
 use Rattle.vs_net.specs.Network.{Write, Update, Network}
 use Rattle.vs_net.specs.Network as N
@@ -9,6 +9,7 @@ use Rattle.vs_design.specs.Statements.{Statement}
 use Rattle.vs_design.specs.Bodies.{assignment_writes, body, no_effect}
 use Rattle.vs_design.specs.Designs.{Event, Process, Continuous, Always, is_clocked, Initial, Design, top_inputs, bit_count}
 use Rattle.vs_design.specs.Footprints.{contains, all_reads, writes_of, waits_of}
+use Rattle.vs_design.specs.Delays.{has_delays}
 pub use Rattle.vs_design.specs.Initials.{idle_value}
 use Rattle.vs_design.specs.Initials.{initial_writes, initial_updates, sole_bits}
 use Rattle.vs_design.specs.Clocks.{Events, events_of, clock_nets, root_of, clock_bit, first_clock}
@@ -69,6 +70,12 @@ update_of (w ∷ ws) = (w ∷ ws) ∷ []
 abbrev pub updates_to : (ℕ → Bool) → List Update → List Update
 updates_to own us = flat_map (λ ws. update_of (filter (λ w. own w.bit) ws)) us
 
+-- some update of the process comes after a delay
+abbrev pub delays_of : Option Process → Bool
+delays_of None = false
+delays_of (Some (Continuous place port target_place target e)) = false
+delays_of (Some (Always place star events statement)) = has_delays statement
+
 -- the network in which the initial processes run in this order
 abbrev pub network_in : Design → List ℕ → List Initial → Network
 network_in d clocks order = record {
@@ -79,6 +86,7 @@ network_in d clocks order = record {
   initial_updates = λ p. updates_to (kept_bits (at_or_input (all_processes d clocks) p)) (flat_map initial_updates order);
   sleeper = sleeper_at d;
   selectors = selectors_at d;
+  delays = λ p. delays_of (slice_get d.processes p);
 }
 
 abbrev pub network_of : Design → List ℕ → Network

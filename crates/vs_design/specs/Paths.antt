@@ -16,7 +16,7 @@ reading bits = record { reads = bits; assigned = [] }
 abbrev mutual
   pub IsPath : Statement → List Step → Type 0
   IsPath Empty path = path ≡ []
-  IsPath (Assignment place target e blocking) path = path ≡ record { reads = target_reads target ++ read_bits e; assigned = assigns target } ∷ []
+  IsPath (Assignment place target e blocking delay) path = path ≡ record { reads = target_reads target ++ read_bits e; assigned = assigns target } ∷ []
   IsPath (Then first rest) path = (p : List Step) × (q : List Step) × IsPath first p × IsPath rest q × (path ≡ p ++ q)
   IsPath (If c taken other) path = (p : List Step) × (IsPath taken p ⊎ IsPath other p) × (path ≡ reading (read_bits c) ∷ p)
   IsPath (Case kind subject arms) path = (p : List Step) × IsArmPath arms p × (path ≡ reading (read_bits subject) ∷ p)

@@ -10,7 +10,7 @@ use Rattle.vs_design.specs.Levels.{needs, level_order}
 abbrev mutual
   pub blocking_bits : Statement → List ℕ
   blocking_bits Empty = []
-  blocking_bits (Assignment place target e blocking) = if blocking then target_bits target else []
+  blocking_bits (Assignment place target e blocking delay) = if blocking then target_bits target else []
   blocking_bits (Then first rest) = blocking_bits first ++ blocking_bits rest
   blocking_bits (If c taken other) = blocking_bits taken ++ blocking_bits other
   blocking_bits (Case kind subject arms) = arms_blocking arms
@@ -69,7 +69,7 @@ has_no_race d = race_free d (level_order d) 0 d.processes
 abbrev mutual
   pub nonblocking_bits : Statement → List ℕ
   nonblocking_bits Empty = []
-  nonblocking_bits (Assignment place target e blocking) = if blocking then [] else target_bits target
+  nonblocking_bits (Assignment place target e blocking delay) = if blocking then [] else target_bits target
   nonblocking_bits (Then first rest) = nonblocking_bits first ++ nonblocking_bits rest
   nonblocking_bits (If c taken other) = nonblocking_bits taken ++ nonblocking_bits other
   nonblocking_bits (Case kind subject arms) = arms_nonblocking arms

@@ -10,12 +10,13 @@ use Rattle.vs_design.specs.Elaborated.{IsLawfulDesign}
 use Rattle.vs_design.specs.Sizes.{size}
 use Rattle.vs_design.specs.Rules.{function_latches, mixed_assigns, missing_bits, latches, shared_bits, drivers}
 use Rattle.vs_design.specs.Initials.{has_other_start, initial_bits, clashed_bits}
+use Rattle.vs_design.specs.Delays.{longest_delay, delay_places}
 use Rattle.vs_design.specs.Clocks.{clock_inputs, clock_bits, clock_nets, root_of, reads_clock, has_other_clock}
 use Rattle.vs_design.specs.Resets.{has_other_form}
 use Rattle.vs_design.specs.Levels.{level_order}
 use Rattle.vs_design.specs.Races.{race_bits}
 use Rattle.vs_design.specs.TimeZero.{families, is_uncertain}
-use Rattle.vs_design.specs.Refusals.{WidthRefusal, TooWide, Division, TooLarge, wide_at, divisions_at, told_size, width_refusal, BlockRefusal, FunctionLatch, InitialForm, MixedAssign, Sensitivity, Latch, block_refusal, DriverRefusal, TwoDrivers, TwoWriters, writers, driver_refusal, ClockRefusal, NoClock, ClockRead, NotTheClock, ResetForm, clock_refusal, RaceRefusal, Race, race_refusal, ZeroRefusal, TimeZero, zero_refusal}
+use Rattle.vs_design.specs.Refusals.{WidthRefusal, TooWide, Division, TooLarge, wide_at, divisions_at, told_size, width_refusal, BlockRefusal, FunctionLatch, InitialForm, MixedAssign, Sensitivity, Latch, block_refusal, DriverRefusal, TwoDrivers, TwoWriters, writers, driver_refusal, ClockRefusal, NoClock, ClockRead, NotTheClock, ResetForm, clock_refusal, RaceRefusal, Race, race_refusal, ZeroRefusal, TimeZero, zero_refusal, DelayRefusal, Delay, delay_refusal}
 
 -- n is the least of these numbers
 pub record IsLeastOf (ns : List ℕ) (n : ℕ) : Type 0 where
@@ -121,3 +122,10 @@ IsZeroRefusal d names (TimeZero p at) = (clocks : List Signal) × (clock_inputs 
 
 abbrev pub ZeroRefusalIs : Type 0
 ZeroRefusalIs = (d : Design) (names : List (List ℕ)) (r : ZeroRefusal) → zero_refusal d names ≡ Some r → IsZeroRefusal d names r
+
+-- the greatest delay isn't below half a clock's period, and of the assignments with it this is the first
+abbrev pub IsDelayRefusal : ℕ → Design → DelayRefusal → Type 0
+IsDelayRefusal half d (Delay at) = (half ≤ longest_delay d.processes) × ((rest : List ℕ) × (delay_places (longest_delay d.processes) d.processes ≡ at ∷ rest))
+
+abbrev pub DelayRefusalIs : Type 0
+DelayRefusalIs = (half : ℕ) (d : Design) (r : DelayRefusal) → delay_refusal half d ≡ Some r → IsDelayRefusal half d r

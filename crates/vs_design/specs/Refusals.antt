@@ -1,5 +1,5 @@
 -- What a refusal of an elaborated design carries, and which comes first. A refusal's `at` is a place in the text.
-use Rattle.std.specs.Prelude.{◌≡◌, ℕ, zero, suc, Bool, true, not, ◌&&◌, List, [], ◌∷◌, ◌++◌, map, min, get_or, if◌then◌else◌, nat_le, nat_lt, Option, Some, None, option_map, option_and_then}
+use Rattle.std.specs.Prelude.{◌≡◌, ℕ, zero, suc, Bool, true, not, ◌&&◌, List, [], ◌∷◌, ◌++◌, map, min, get_or, if◌then◌else◌, nat_le, nat_lt, Option, Some, None, option_map, option_and_then, slice_get}
 use Rattle.std.specs.List.{flat_map}
 use Rattle.vs_design.specs.Expressions.{Signal, Expression, Literal, Name, Select, Word, WordPart, Unary, Binary, Choice, Join, Repeat, At, Call, Items, NoItem, Item, width, is_constant}
 use Rattle.vs_design.specs.Statements.{Target, Whole, PartOf, WordOf, WordPartOf, Both, target_width, Statement, Empty, Assignment, Then, If, Case, Arms, Arm, Default}
@@ -10,6 +10,7 @@ use Rattle.vs_design.specs.Fits.{is_division}
 use Rattle.vs_design.specs.Sizes.{awake_size, size}
 use Rattle.vs_design.specs.Rules.{function_latches, mixed_assigns, missing_bits, latches, driver, drivers, shared_bits}
 use Rattle.vs_design.specs.Initials.{has_other_start, initial_bits, clashed_bits}
+use Rattle.vs_design.specs.Delays.{longest_delay, delay_places}
 use Rattle.vs_design.specs.Clocks.{clock_inputs, clock_bits, clock_nets, root_of, reads_clock, has_other_clock}
 use Rattle.vs_design.specs.Resets.{has_other_form}
 use Rattle.vs_design.specs.Levels.{level_order, has_no_cycle}
@@ -83,7 +84,7 @@ abbrev mutual
 
   pub wide_in_statement : ℕ → Statement → List ℕ
   wide_in_statement at Empty = []
-  wide_in_statement at (Assignment place target e blocking) = over_64 place (target_width target) ++ (wide_in_indices place target ++ wide_places place e)
+  wide_in_statement at (Assignment place target e blocking delay) = over_64 place (target_width target) ++ (wide_in_indices place target ++ wide_places place e)
   wide_in_statement at (Then first rest) = wide_in_statement at first ++ wide_in_statement at rest
   wide_in_statement at (If c taken other) = wide_places at c ++ (wide_in_statement at taken ++ wide_in_statement at other)
   wide_in_statement at (Case kind subject arms) = wide_places at subject ++ wide_in_arms at arms
@@ -127,7 +128,7 @@ abbrev mutual
 
   pub divisions_in_statement : ℕ → Statement → List ℕ
   divisions_in_statement at Empty = []
-  divisions_in_statement at (Assignment place target e blocking) = (divisions_in_indices place target ++ division_places place e)
+  divisions_in_statement at (Assignment place target e blocking delay) = (divisions_in_indices place target ++ division_places place e)
   divisions_in_statement at (Then first rest) = divisions_in_statement at first ++ divisions_in_statement at rest
   divisions_in_statement at (If c taken other) = division_places at c ++ (divisions_in_statement at taken ++ divisions_in_statement at other)
   divisions_in_statement at (Case kind subject arms) = division_places at subject ++ divisions_in_arms at arms
@@ -155,7 +156,7 @@ in_assignment f own at target e = own at (target_width target) ++ (in_indices f 
 abbrev mutual
   pub in_statement : (ℕ → Expression → List ℕ) → (ℕ → ℕ → List ℕ) → ℕ → Statement → List ℕ
   in_statement f own at Empty = []
-  in_statement f own at (Assignment place target e blocking) = in_assignment f own place target e
+  in_statement f own at (Assignment place target e blocking delay) = in_assignment f own place target e
   in_statement f own at (Then first rest) = in_statement f own at first ++ in_statement f own at rest
   in_statement f own at (If c taken other) = f at c ++ (in_statement f own at taken ++ in_statement f own at other)
   in_statement f own at (Case kind subject arms) = f at subject ++ in_arms f own at arms
@@ -312,9 +313,19 @@ zero_refusal_by d (Some clocks) = first_found (λ p process. where_true (is_unce
 abbrev pub zero_refusal : Design → List (List ℕ) → Option ZeroRefusal
 zero_refusal d names = zero_refusal_by d (clock_inputs d names)
 
+-- ---- delays
+
+pub data DelayRefusal : Type 0 where
+  -- at the assignment
+  Delay : (at : ℕ) → DelayRefusal
+
+-- the first assignment with the greatest delay, in the order of the processes and of their statements, where this delay isn't below half a clock's period
+abbrev pub delay_refusal : ℕ → Design → Option DelayRefusal
+delay_refusal half d = if nat_lt (longest_delay d.processes) half then None else option_map Delay (slice_get (delay_places (longest_delay d.processes) d.processes) 0)
+
 -- ---- none
 
--- nothing refuses the design
+-- nothing refuses the design, whatever the clock's period
 pub record IsUnrefused (d : Design) (names : List (List ℕ)) : Type 0 where
   pub widths : width_refusal d ≡ None
   pub blocks : block_refusal d ≡ None

@@ -10,7 +10,7 @@ use Rattle.vs_net.specs.Network as N
 use Rattle.vs_design.specs.Expressions.{Signal, signal_length, BitNot, LogicalNot, BinaryOp, Equal, CaseEqual, Expression, Unary, Binary, At, is_constant}
 use Rattle.vs_design.specs.Values.{own_value}
 use Rattle.vs_design.specs.Statements.{Statement, Empty, Assignment, Then, If, Case, Arms, Arm, Default}
-use Rattle.vs_design.specs.Bodies.{body}
+use Rattle.vs_design.specs.Bodies.{body, updates_in}
 use Rattle.vs_design.specs.Designs.{Edge, Any, Posedge, Negedge, Event, Process, Always, Design}
 use Rattle.vs_design.specs.Footprints.{statement_signals}
 use Rattle.vs_design.specs.Calls.{statement_calls}
@@ -72,7 +72,7 @@ has_none (s ∷ ss) = false
 abbrev mutual
   pub are_constant : Statement → Bool
   are_constant Empty = true
-  are_constant (Assignment place target e blocking) = has_constant_selects target
+  are_constant (Assignment place target e blocking delay) = has_constant_selects target
   are_constant (Then first rest) = are_constant first && are_constant rest
   are_constant (If c taken other) = are_constant taken && are_constant other
   are_constant (Case kind subject arms) = arms_constant arms
@@ -104,7 +104,7 @@ abbrev pub branch_writes : Statement → List Write
 branch_writes s = (body s (λ b. X)).writes
 
 abbrev pub branch_updates : Statement → List Update
-branch_updates s = (body s (λ b. X)).updates
+branch_updates s = updates_in (body s (λ b. X))
 
 abbrev pub net_edge : Edge → N.Edge
 net_edge Negedge = N.Negedge

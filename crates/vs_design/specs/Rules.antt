@@ -11,7 +11,7 @@ use Rattle.vs_design.specs.Selects.{meant}
 abbrev mutual
   pub mixed_in : (blocking : Bool) → Statement → List ℕ
   mixed_in clocked Empty = []
-  mixed_in clocked (Assignment place target e blocking) = if (clocked && blocking) || not (clocked || blocking) then (place ∷ []) else []
+  mixed_in clocked (Assignment place target e blocking delay) = if (clocked && blocking) || not (clocked || blocking) then (place ∷ []) else []
   mixed_in clocked (Then first rest) = mixed_in clocked first ++ mixed_in clocked rest
   mixed_in clocked (If c taken other) = mixed_in clocked taken ++ mixed_in clocked other
   mixed_in clocked (Case kind subject arms) = mixed_in_arms clocked arms

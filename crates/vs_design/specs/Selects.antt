@@ -119,7 +119,7 @@ with_default kind w s subject last (Default statement) = Default last
 abbrev mutual
   pub completed : Design → Statement → Statement
   completed d Empty = Empty
-  completed d (Assignment place target e blocking) = Assignment place target e blocking
+  completed d (Assignment place target e blocking delay) = Assignment place target e blocking delay
   completed d (Then first rest) = Then (completed d first) (completed d rest)
   completed d (If c taken other) = If c (completed d taken) (completed d other)
   completed d (Case kind subject arms) =
@@ -143,7 +143,7 @@ meant d s = if is_lenient s then completed d s else s
 abbrev mutual
   pub selector_signals : Design → Statement → List Signal
   selector_signals d Empty = []
-  selector_signals d (Assignment place target e blocking) = []
+  selector_signals d (Assignment place target e blocking delay) = []
   selector_signals d (Then first rest) = selector_signals d first ++ selector_signals d rest
   selector_signals d (If c taken other) = selector_signals d taken ++ selector_signals d other
   selector_signals d (Case kind subject arms) = (if is_full d kind subject arms then read_signals subject else []) ++ arms_selector_signals d arms
@@ -155,7 +155,7 @@ abbrev mutual
 abbrev mutual
   pub selector_bits : Design → Statement → List ℕ
   selector_bits d Empty = []
-  selector_bits d (Assignment place target e blocking) = []
+  selector_bits d (Assignment place target e blocking delay) = []
   selector_bits d (Then first rest) = selector_bits d first ++ selector_bits d rest
   selector_bits d (If c taken other) = selector_bits d taken ++ selector_bits d other
   selector_bits d (Case kind subject arms) = (if is_full d kind subject arms then read_bits subject else []) ++ arms_selector_bits d arms

@@ -102,7 +102,7 @@ abbrev mutual
   -- an `if` costs its condition and the bits that either branch writes; a case costs w + 1 for each item, and for each arm with items the bits that the case writes
   pub statement_weight : Statement → ℕ
   statement_weight Empty = 0
-  statement_weight (Assignment place target e blocking) = target_width target + target_weight target + weight e (max (width e) (target_width target))
+  statement_weight (Assignment place target e blocking delay) = target_width target + target_weight target + weight e (max (width e) (target_width target))
   statement_weight (Then first rest) = statement_weight first + statement_weight rest
   statement_weight (If c taken other) = width c + distinct (statement_bits taken ++ statement_bits other) + weight c (width c) + statement_weight taken + statement_weight other
   statement_weight (Case kind subject arms) = weight subject (case_width subject arms) + arms_weight arms (case_width subject arms) (distinct (arms_bits arms))

@@ -14,7 +14,7 @@ use Rattle.vs_design.specs.LiftedBodies.{lifted_body}
 abbrev mutual
   pub most_writes : Statement → ℕ → ℕ
   most_writes Empty b = 0
-  most_writes (Assignment place target e blocking) b = if contains (target_bits target) b then 1 else 0
+  most_writes (Assignment place target e blocking delay) b = if contains (target_bits target) b then 1 else 0
   most_writes (Then first rest) b = most_writes first b + most_writes rest b
   most_writes (If c taken other) b = max (most_writes taken b) (most_writes other b)
   most_writes (Case kind subject arms) b = arms_most arms b
@@ -44,7 +44,7 @@ is_still d b = contains (variable_bits d) b && not (contains (comb_bits d.proces
 abbrev mutual
   pub at_once : Statement → Statement
   at_once Empty = Empty
-  at_once (Assignment place target e blocking) = Assignment place target e true
+  at_once (Assignment place target e blocking delay) = Assignment place target e true delay
   at_once (Then first rest) = Then (at_once first) (at_once rest)
   at_once (If c taken other) = If c (at_once taken) (at_once other)
   at_once (Case kind subject arms) = Case kind subject (arms_at_once arms)

@@ -12,7 +12,7 @@ use Rattle.vs_design.specs.Selects.{selectors_at}
 use Rattle.vs_design.specs.Expressions.{Signal, Expression}
 use Rattle.vs_design.specs.Values.{bits_of_signal}
 use Rattle.vs_design.specs.Statements.{Target, Statement}
-use Rattle.vs_design.specs.Bodies.{assignment_writes, body}
+use Rattle.vs_design.specs.Bodies.{assignment_writes, body, updates_in}
 use Rattle.vs_design.specs.Designs.{Event, Port, Process, Continuous, Always, is_clocked, Design, top_inputs}
 use Rattle.vs_design.specs.Footprints.{contains, statement_bits, writes_of, input_bits}
 use Rattle.vs_design.specs.Clocks.{clock_bits}
@@ -32,7 +32,7 @@ input_value Rise before = before
 -- when the clocks rise a register gets what its block writes at once on the values before, and then all its updates, in their order; when they fall it gets those of the reset branch, where there is one and its input is active, and else stays
 abbrev pub register_value : Option N.Reset → Statement → Slot → State → State
 register_value reset st (Fall vector) before = write_all before (flatten (reset_effects reset vector))
-register_value reset st Rise before = write_all before (flatten ((body st before).writes ∷ (body st before).updates))
+register_value reset st Rise before = write_all before (flatten ((body st before).writes ∷ updates_in (body st before)))
 
 -- what a combinational block writes: x as long as it sleeps
 abbrev pub block_writes : Option N.Sleeper → Statement → State → State → List Write

@@ -8,7 +8,7 @@ use Rattle.vs_net.specs.Network.{State, is_written, write_all, flatten}
 use Rattle.vs_design.specs.Expressions.{Signal, word_length, Expression, width, is_constant}
 use Rattle.vs_design.specs.Values.{address_place, word_part_places, value, assigned_value}
 use Rattle.vs_design.specs.Statements.{Target, Statement}
-use Rattle.vs_design.specs.Bodies.{bits_at, assignment_writes, body}
+use Rattle.vs_design.specs.Bodies.{bits_at, assignment_writes, body, updates_in}
 use Rattle.vs_design.specs.Footprints.{contains, read_bits, target_bits, statement_reads, statement_bits, without}
 use Rattle.vs_design.specs.Latches.{latch_bits, early_reads, assigned_after}
 use Rattle.vs_design.specs.Rules.{mixed_in}
@@ -47,7 +47,7 @@ abbrev pub AssignWritesExactly : Type 0
 AssignWritesExactly = (t : Target) (e : Expression) → has_constant_selects t ≡ true → fits_target t ≡ true → (s : State) (b : ℕ) → is_written (assignment_writes t e s) b ≡ contains (target_bits t) b
 
 abbrev pub BodyWritesWithin : Type 0
-BodyWritesWithin = (st : Statement) → fits_statement st ≡ true → (s : State) (b : ℕ) → (is_written (body st s).writes b ≡ true) ⊎ (is_written (flatten (body st s).updates) b ≡ true) → contains (statement_bits st) b ≡ true
+BodyWritesWithin = (st : Statement) → fits_statement st ≡ true → (s : State) (b : ℕ) → (is_written (body st s).writes b ≡ true) ⊎ (is_written (flatten (updates_in (body st s))) b ≡ true) → contains (statement_bits st) b ≡ true
 
 -- what is assigned on every path is written
 abbrev pub BodyAssigns : Type 0

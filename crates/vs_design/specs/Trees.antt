@@ -100,8 +100,8 @@ mutual
   pub data Statement : Type 0 where
     -- a lone `;` and a branch that isn't there
     Empty : Statement
-    -- `=` (9.2.1), or `<=` where it isn't blocking (9.2.2); `place` is where it begins in the text
-    Assignment : (place : ℕ) (target : Target) (e : Expression) (blocking : Bool) → Statement
+    -- `=` (9.2.1), or `<=` where it isn't blocking (9.2.2), whose update comes after the delay (9.7.7); `place` is where it begins in the text
+    Assignment : (place : ℕ) (target : Target) (e : Expression) (blocking : Bool) (delay : ℕ) → Statement
     -- one after the other (9.8.1); longer sequences nest
     Then : (first rest : Statement) → Statement
     -- 9.4

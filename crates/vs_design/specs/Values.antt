@@ -108,7 +108,7 @@ abbrev mutual
   -- what a statement does: the blocking writes in their order, and the nonblocking updates, one for each `<=` that is executed. The values after it are `write_all state` of the writes
   pub body : Statement → State → Effect
   body Empty state = no_effect
-  body (Assignment place target e blocking) state = effect_of blocking (last_of_each (target_writes target (cut (target_width target) (value e (max (width e) (target_width target)) (sign e) state)) state))
+  body (Assignment place target e blocking delay) state = effect_of blocking delay (last_of_each (target_writes target (cut (target_width target) (value e (max (width e) (target_width target)) (sign e) state)) state))
   body (Then first rest) state = let done = body first state in both_effects done (body rest (write_all state done.writes))
   body (If c taken other) state = if is_one (truth (value c (width c) (sign c) state)) then body taken state else body other state
   body (Case kind subject arms) state =

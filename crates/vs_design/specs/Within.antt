@@ -41,7 +41,7 @@ target_within n (Both high low) = target_within n high && target_within n low
 abbrev mutual
   pub statement_within : ℕ → Statement → Bool
   statement_within n Empty = true
-  statement_within n (Assignment place target e blocking) = target_within n target && names_within n e
+  statement_within n (Assignment place target e blocking delay) = target_within n target && names_within n e
   statement_within n (Then first rest) = statement_within n first && statement_within n rest
   statement_within n (If c taken other) = names_within n c && statement_within n taken && statement_within n other
   statement_within n (Case kind subject arms) = names_within n subject && arms_within n arms

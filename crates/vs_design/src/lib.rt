@@ -5,9 +5,11 @@
 
 ghost use Rattle.vs_design.specs.Answers.{AcceptedOrRefused, NotBoth};
 ghost use Rattle.vs_design.specs.DeadLaws.{DeadNetsAreNets, DeadNetsStay};
+ghost use Rattle.vs_design.specs.DelayLaws.{DelaysAreBelow, DelaysPass, PromptInOrder};
 ghost use Rattle.vs_design.specs.ExampleBodies.{BodiesComputed};
 ghost use Rattle.vs_design.specs.ExampleBlocking.{BlockingComputed};
 ghost use Rattle.vs_design.specs.ExampleCalls.{CallsComputed};
+ghost use Rattle.vs_design.specs.ExampleDelays.{DelaysComputed};
 ghost use Rattle.vs_design.specs.ExampleDesigns.{DesignsComputed};
 ghost use Rattle.vs_design.specs.ExampleElaborated.{ElaboratedComputed};
 ghost use Rattle.vs_design.specs.ExampleInitials.{InitialsComputed};
@@ -24,7 +26,7 @@ ghost use Rattle.vs_design.specs.FullLaws.{CompletedDoesTheSame, CoversAll};
 ghost use Rattle.vs_design.specs.Memories.{WordsAre};
 ghost use Rattle.vs_design.specs.Paths.{LatchBitsAre};
 ghost use Rattle.vs_design.specs.PlaceLaws.{ItemPlacesAgree, StatementFits, StatementPlacesAgree};
-ghost use Rattle.vs_design.specs.RefusalLaws.{BlockRefusalIs, ClockRefusalIs, DriverRefusalIs, DriversAre, RaceRefusalIs, WidthRefusalIs, ZeroRefusalIs};
+ghost use Rattle.vs_design.specs.RefusalLaws.{BlockRefusalIs, ClockRefusalIs, DelayRefusalIs, DriverRefusalIs, DriversAre, RaceRefusalIs, WidthRefusalIs, ZeroRefusalIs};
 ghost use Rattle.vs_design.specs.SlotValues.{SlotValuesAre};
 ghost use Rattle.vs_design.specs.Within.{FormedIsWithin, FunctionIsWithin, StatementIsWithin, TargetIsWithin};
 ghost use Rattle.vs_design.specs.TreeLaws.{AssignWritesExactly, AssignedLength, BlockReads, BlockWritesExactly, BodyAssigns, BodyInSets, BodyReads, BodySetsRead, BodyWritesWithin, ConstantValue, NoUpdates, NoWrites, PartsOfNone, PartsOfWord, ValueInSets, ValueLength, ValueReads, ValueSetsRead};
@@ -156,6 +158,14 @@ pub fn refusal_law()
     ensures clock { ClockRefusalIs }
     ensures race { RaceRefusalIs }
     ensures zero { ZeroRefusalIs }
+    ensures delay { DelayRefusalIs }
+{}
+
+/// A design that the rule Delay doesn't refuse has all delays below half a clock's period, and so each update comes within the slot whose run gives it. The updates of a statement without delays are applied in the order of its assignments.
+pub fn delay_law()
+    ensures passed { DelaysPass }
+    ensures below { DelaysAreBelow }
+    ensures order { PromptInOrder }
 {}
 
 /// The places of what is over 64 bits or divides at run time are the same of a block's statement and of a function's, and in a formed statement all fits exactly where there are none.
@@ -285,4 +295,9 @@ pub fn refusal_examples()
 /// Worked full cases: which items match every value, which blocks are accepted, and the values at the end of each slot.
 pub fn select_examples()
     ensures { SelectsComputed }
+{}
+
+/// Worked designs whose updates have delays: sizes, that no rule refuses them, and the values at the end of each slot.
+pub fn delay_examples()
+    ensures { DelaysComputed }
 {}

@@ -1,5 +1,5 @@
 -- Calls that fail one behind the other.
-use Rattle.std.proofs.Common.{◌≡◌, ◌≢◌, ℕ, Bool, List, inl, inr, refl, sym, ap, ◌∙◌, subst, arith}
+use Rattle.std.proofs.Common.{◌≢◌, ℕ, Bool, List, inl, inr, sym, ◌∙◌, subst, arith}
 use Rattle.vs_desk.specs.Desk.{Register, Told, Rose, Fails, FailsAlone, Stays}
 
 Rose-trans : (a b c : ℕ) → Rose a b → Rose b c → Rose a c

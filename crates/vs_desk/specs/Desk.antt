@@ -25,11 +25,13 @@ pub record Contents : Type 0 where
   pub left : ℕ → List ℕ
   pub put : ℕ → List ℕ
 
--- What a desk tells: its register, and its contents. Whether the contents are told is a matter of the kind of desk, so it is the same
+-- What a desk tells: its register, its contents, and where it keeps nothing back. Whether the contents are told is a matter of the kind of desk, so it is the same
 -- before and after each call. Of the contents of a desk that doesn't tell them nothing is known.
 pub record Told (tells : Bool) : Type 0 where
   pub register : Register
   pub contents : Contents
+  -- nothing of what was put at the place is kept back
+  pub is_out : ℕ → Bool
 
 -- no place but 0 is attached, and no call has failed
 abbrev pub no_register : Register
@@ -86,6 +88,10 @@ with_put register contents place bytes = record contents {
 abbrev pub PutsPart : Register → Contents → Contents → ℕ → List ℕ → Type 0
 PutsPart register old new place bytes = (n : ℕ) × (n < length bytes) × (new ≡ with_put register old place (take n bytes))
 
+-- At every other place nothing is kept back where nothing was.
+abbrev pub StaysOut : {tells : Bool} → (old new : Told tells) → (place : ℕ) → Type 0
+StaysOut old new place = (p : ℕ) → p ≢ place → IsTrue (old.is_out p) → IsTrue (new.is_out p)
+
 -- A count rose in a call; at 2^64 - 1 it stays and counts as risen.
 abbrev pub Rose : ℕ → ℕ → Type 0
 Rose before after = ((before < after) × (after < 2 ^ 64)) ⊎ ((before ≡ 2 ^ 64 - 1) × (after ≡ 2 ^ 64 - 1))
@@ -137,3 +143,8 @@ pub record PutsAll {tells : Bool} {V E : Type 0} (old new : Told tells) (place :
   pub places : new.register.attached ≡ old.register.attached
   pub failed : OnErr result (Fails old.register new.register place old.register.asked)
   pub part : IsTrue tells → OnErr result (PutsPart old.register old.contents new.contents place bytes)
+
+-- What a call that is to put these bytes on the report does: nothing begins to be kept back at another place.
+pub record PutsReport {tells : Bool} {V E : Type 0} (old new : Told tells) (bytes : List ℕ) (result : Result V E) : Type 0 where
+  pub puts : PutsAll old new 0 bytes result
+  pub out : StaysOut old new 0

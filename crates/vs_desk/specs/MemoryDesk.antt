@@ -21,9 +21,9 @@ contents desk = record {
   put = λ p. put_in desk.report.items desk.tapes p;
 }
 
--- it tells its contents
+-- it tells its contents, and keeps nothing back
 abbrev pub told : MemoryDesk → Told true
-told desk = record { register = register desk; contents = contents desk }
+told desk = record { register = register desk; contents = contents desk; is_out = λ p. true }
 
 -- whether it holds a file at the path
 unfoldable pub holds : MemoryDesk → List ℕ → Bool

@@ -1,7 +1,7 @@
 // What every desk offers and tells.
 ghost use Rattle.std.specs.Prelude.{◌≡◌, ◌≢◌, ◌<◌, ◌≤◌, ◌++◌, ℕ, Bool, [], length, take, drop, IsTrue, IsNone, IsOk, IfOk, OnOk, OnErr, string_bytes};
 ghost use Rattle.vs_desk.specs.declared.desk.Way.TheVariants.{Read};
-ghost use Rattle.vs_desk.specs.Desk.{Told, IsAttached, IsWritable, FailsAlone, Stays, Attaches, Takes, Puts, PutsAll};
+ghost use Rattle.vs_desk.specs.Desk.{Told, IsAttached, IsWritable, FailsAlone, Stays, Attaches, Takes, Puts, PutsAll, StaysOut};
 
 use thiserror::Error;
 
@@ -28,8 +28,8 @@ pub trait Desk {
     /// Whether this kind of desk tells its contents.
     ghost tells: { Bool };
 
-    /// What the desk tells: the attached places, the counts of failed calls and where the last was, and the
-    /// bytes of each path and place.
+    /// What the desk tells: the attached places, the counts of failed calls and where the last was, the
+    /// bytes of each path and place, and at which places nothing is kept back.
     ghost told: { Self → Told tells };
 
     /// Attaches a place to a path. With `Read` the path's bytes are then left to take there. `Write`
@@ -43,6 +43,7 @@ pub trait Desk {
             (Attaches (told self.old) (told self.new) place way (string_bytes path)) }
         ensures other_places { (p : ℕ) → p ≢ place →
             (told self.new).register.attached p ≡ (told self.old).register.attached p }
+        ensures out { StaysOut (told self.old) (told self.new) place }
         ensures failed { OnErr result
             (FailsAlone (told self.old) (told self.new) place (string_bytes path)) };
 
@@ -59,6 +60,7 @@ pub trait Desk {
             (λ n. buf.new ≡ take n ((told self.old).contents.left place) ++ drop n buf.old) }
         ensures taken { IfOk result (λ n. Takes (told self.old) (told self.new) place n) }
 
+        ensures out { StaysOut (told self.old) (told self.new) place }
         ensures places { (told self.new).register.attached ≡ (told self.old).register.attached }
         ensures failed { OnErr result
             (FailsAlone (told self.old) (told self.new) place (told self.old).register.asked) };
@@ -75,17 +77,20 @@ pub trait Desk {
         ensures within { IfOk result (λ n. n ≤ length bytes.now) }
         ensures put { IfOk result (λ n. Puts (told self.old) (told self.new) place (take n bytes.now)) }
 
+        ensures out { StaysOut (told self.old) (told self.new) place }
         ensures places { (told self.new).register.attached ≡ (told self.old).register.attached }
         ensures failed { OnErr result
             (FailsAlone (told self.old) (told self.new) place (told self.old).register.asked) };
 
-    /// Writes out what was put at a place and was kept back.
+    /// Writes out what was put at a place and was kept back: nothing is kept back there then.
     ///
     /// It fails only where it raised the count of its place; some last bytes of what was put there may
     /// not have come to the path's file then. Nothing else that is told changes.
     fn flush(&mut self, place: u32) -> Result<(), Failed>
         requires writable { IsWritable (told self.old).register place }
         ensures flushed { OnOk result (Stays (told self.old) (told self.new)) }
+        ensures written { OnOk result (IsTrue ((told self.new).is_out place)) }
+        ensures out { StaysOut (told self.old) (told self.new) place }
         ensures failed { OnErr result
             (FailsAlone (told self.old) (told self.new) place (told self.old).register.asked) };
 }
@@ -96,6 +101,7 @@ pub trait Desk {
 pub fn put_all<D: Desk>(desk: &mut D, place: u32, bytes: &[u8]) -> Result<(), Failed>
     requires { IsWritable (D.told desk.old).register place }
     ensures puts { PutsAll (D.told desk.old) (D.told desk.new) place bytes.now result }
+    ensures out { StaysOut (D.told desk.old) (D.told desk.new) place }
 
     // For no bytes it calls nothing.
     ensures nothing { bytes.now ≡ [] → desk.new ≡ desk.old }

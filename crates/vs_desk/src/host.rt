@@ -1,8 +1,8 @@
 // A desk over the system's files and standard output.
-ghost use Rattle.std.specs.Prelude.{◌≡◌, ◌≢◌, ℕ, None, Some, IfErr, IsSome, ◌≤◌, length, OnOk, OnErr, IfOk, if◌then◌else◌, ◌==◌, string_bytes};
+ghost use Rattle.std.specs.Prelude.{◌≡◌, ◌≢◌, ℕ, None, Some, IfErr, IsSome, IsTrue, ◌≤◌, length, OnOk, OnErr, IfOk, if◌then◌else◌, ◌==◌, ◌||◌, string_bytes};
 ghost use Rattle.std.specs.Ordering.{nat_cmp};
 ghost use Rattle.std.specs.BTreeMap.{get};
-ghost use Rattle.vs_desk.specs.Place.{attached_in};
+ghost use Rattle.vs_desk.specs.Place.{attached_in, is_empty_at, KeepsOthers};
 
 use crate::failures::Failures;
 use crate::place::Place;
@@ -87,6 +87,7 @@ fn attach_file<R: Files>(
         ≡ (if p == place then Some (record { way = way; path = string_bytes path })
         else attached_in places.old p)) }
     ensures err { OnErr result ((p : ℕ) → attached_in places.new p ≡ attached_in places.old p) }
+    ensures others { KeepsOthers place places.old places.new }
     ensures path { IfErr result (λ p. string_bytes p ≡ string_bytes path) }
 {
     match places.entry(place) {
@@ -111,6 +112,7 @@ fn read_from<F: Read + Write + Drop>(
     requires { IsSome (get nat_cmp places.old place) }
     ensures within { IfOk result (λ n. n ≤ length buf.old) }
     ensures attached { (p : ℕ) → attached_in places.new p ≡ attached_in places.old p }
+    ensures others { KeepsOthers place places.old places.new }
 {
     places.get_mut(&place).unwrap().stream.get_mut().read(buf)
 }
@@ -125,6 +127,7 @@ fn write_to<R: Files + Print>(
     requires { place ≢ 0 → IsSome (get nat_cmp places.old place) }
     ensures within { IfOk result (λ n. n ≤ length bytes.now) }
     ensures attached { (p : ℕ) → attached_in places.new p ≡ attached_in places.old p }
+    ensures others { KeepsOthers place places.old places.new }
 {
     if place == 0 {
         return rt.write_some(bytes);
@@ -139,6 +142,8 @@ fn write_out<F: Write + Drop>(
 ) -> io::Result<()>
     requires { place ≢ 0 → IsSome (get nat_cmp places.old place) }
     ensures attached { (p : ℕ) → attached_in places.new p ≡ attached_in places.old p }
+    ensures others { KeepsOthers place places.old places.new }
+    ensures written { OnOk result (IsTrue (place == 0 || is_empty_at places.new place)) }
 {
     if place == 0 {
         return Ok(());
@@ -146,7 +151,7 @@ fn write_out<F: Write + Drop>(
     places.get_mut(&place).unwrap().stream.flush()
 }
 
-#[tactic(auto, unfolding(crate::specs::Host::register))]
+#[tactic(auto, unfolding(crate::specs::Host::register, crate::specs::Host::is_out))]
 impl<R: Files + Print> Desk for HostDesk<R> {
     ghost use Rattle.std.specs.Prelude.{false};
     ghost use Rattle.vs_desk.specs.Host.{told};

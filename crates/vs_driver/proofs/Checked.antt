@@ -10,17 +10,19 @@ use Rattle.vs_design.specs.RefusalLaws.{DriversAre}
 use Rattle.vs_driver.specs.declared.drivers.Drivers.{Drivers}
 use Rattle.vs_driver.specs.declared.starts.Starts.{Starts}
 use Rattle.vs_driver.specs.declared.settled.Settled.{Settled}
-use Rattle.vs_driver.specs.Drivers.{are_two, drivers_at, IsTableOf}
+use Rattle.vs_driver.specs.Drivers.{are_two, is_driven, drivers_at, IsTableOf}
 use Rattle.vs_driver.specs.Marks.{is_marked, AreStarts, AreSettled, clash}
 use Rattle.vs_reads.proofs.Tests.{by_test}
-use Rattle.vs_driver.proofs.Least.{refused_bits, refused_is}
+use Rattle.vs_driver.proofs.Least.{driven_is, refused_bits, refused_is}
 use Rattle.vs_driver.proofs.Marking.{clash_is, marked_within}
 
 -- a bit is found to be refused exactly where it is
 pub told_at : DriversAre → (d : Design) (table : List Drivers) (s : Starts) (t : Settled) → IsTableOf d table → AreStarts d (length d.initials) s → AreSettled d (length d.processes) t
-    → (b : ℕ) → b < bit_count d → (are_two (drivers_at table b) || clash s t b) ≡ contains (refused_bits d) b
+    → (b : ℕ) → b < bit_count d → (are_two (drivers_at table b) || clash (drivers_at table b) s t b) ≡ contains (refused_bits d) b
 told_at law d table s t has starts settled b l =
-    ap₂ (λ p q. p || q) (ap are_two (has.drivers b (subst (λ n. b < n) (sym has.count) l))) (clash_is d s t (length d.initials) (length d.processes) (le_refl (length d.initials)) (le_refl (length d.processes)) starts settled b)
+    let two = has.drivers b (subst (λ n. b < n) (sym has.count) l) in
+    ap₂ (λ p q. p || q) (ap are_two two)
+    (clash_is d (drivers_at table b) s t (length d.initials) (length d.processes) (le_refl (length d.initials)) (le_refl (length d.processes)) starts settled b (ap is_driven two ∙ driven_is law d b))
     ∙ sym (refused_is law d b)
 
 -- and to be written by an initial process

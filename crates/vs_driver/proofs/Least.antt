@@ -18,7 +18,7 @@ use Rattle.vs_driver.specs.declared.writers.Writers as V
 use Rattle.vs_driver.specs.declared.writers.Writers.TheVariants as W
 use Rattle.vs_driver.specs.Writers.{first_writers}
 use Rattle.vs_driver.specs.Refused.{AreTwoWriters}
-use Rattle.vs_driver.specs.Drivers.{are_two, first_two}
+use Rattle.vs_driver.specs.Drivers.{are_two, first_two, is_driven}
 use Rattle.vs_reads.proofs.Tests.{by_test, either_way, same_test, or_left, or_right, and_both, and_true, contains-append, contains_head, contains_tail}
 
 -- two drivers or more
@@ -76,6 +76,29 @@ shared_is law d b =
     there (p ∷ ps) e l =
         let w = (law d b p).0 (subst (λ zs. contains zs p ≡ true) e (contains_head p ps)) in
         written d.processes p w.0 b w.1 w.2
+
+-- and is written exactly where it has one
+pub driven_is : DriversAre → (d : Design) (b : ℕ) → is_driven (first_two (drivers d b)) ≡ contains (written_bits d.processes) b
+driven_is law d b = go (drivers d b) refl
+  where
+    driver_there : (ps : List ℕ) (p : ℕ) → drivers d b ≡ p ∷ ps → contains (written_bits d.processes) b ≡ true
+    driver_there ps p e =
+        let w = (law d b p).0 (subst (λ zs. contains zs p ≡ true) (sym e) (contains_head p ps)) in
+        written d.processes p w.0 b w.1 w.2
+
+    none_there : drivers d b ≡ [] → contains (written_bits d.processes) b ≡ false
+    none_there e =
+        by_test (contains (written_bits d.processes) b)
+        (λ c.
+        let r = writer_of d.processes b c in
+        let k : contains [] r.0 ≡ true = ap (λ zs. contains zs r.0) (sym e) ∙ (law d b r.0).1 (r.1, r.2, r.3) in
+        absurd (let z : ⊥ = cc in z))
+        (λ c. c)
+
+    go : (ps : List ℕ) → drivers d b ≡ ps → is_driven (first_two ps) ≡ contains (written_bits d.processes) b
+    go [] e = sym (none_there e)
+    go (p ∷ []) e = sym (driver_there [] p e)
+    go (p ∷ q ∷ ps) e = sym (driver_there (q ∷ ps) p e)
 
 -- ---- the least
 

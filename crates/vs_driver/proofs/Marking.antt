@@ -7,13 +7,16 @@ use Rattle.std.proofs.lemmas.Option.{slice_get_within, get_or_from_slice_get}
 use Rattle.vs_design.specs.Statements.{Statement, Empty, Assignment, Then, If, Case, Arms, Arm, Default}
 use Rattle.vs_design.specs.Designs.{Initial, Design}
 use Rattle.vs_design.specs.Footprints.{contains, statement_bits, arms_bits}
-use Rattle.vs_design.specs.Races.{nonblocking_bits, arms_nonblocking}
-use Rattle.vs_design.specs.Initials.{initial_bits, starters_from, settled_bits, stirring_bits, late_bits, clashes}
+use Rattle.vs_design.specs.Races.{blocking_bits, arms_blocking, nonblocking_bits, arms_nonblocking}
+use Rattle.vs_design.specs.Initials.{initial_bits, starters_from, settled_bits, stirring_bits, late_bits, early_bits, clashes}
 use Rattle.vs_design.specs.Fits.{fits_statement}
 use Rattle.vs_design.specs.Within.{statement_within}
 use Rattle.vs_shape.specs.declared.bodies.Walk.{Walk}
 use Rattle.vs_shape.specs.declared.bodies.Walk.TheVariants as W
 use Rattle.vs_shape.specs.Gathered.{walked_statement}
+use Rattle.vs_design.specs.Rules.{written_bits}
+use Rattle.vs_driver.specs.declared.drivers.Drivers.{Drivers}
+use Rattle.vs_driver.specs.Drivers.{is_driven}
 use Rattle.vs_driver.specs.declared.starts.Starts.{Starts}
 use Rattle.vs_driver.specs.declared.settled.Settled.{Settled}
 use Rattle.vs_driver.specs.Marks.{is_marked, AreStarts, AreSettled, clash}
@@ -204,8 +207,8 @@ both_sides xs ys vs ws b f g h =
 mutual
   pub later_written : (s : Statement) (b : ℕ) → contains (nonblocking_bits s) b ≡ true → contains (statement_bits s) b ≡ true
   later_written Empty b h = h
-  later_written (Assignment place target e true) b h = cc
-  later_written (Assignment place target e false) b h = h
+  later_written (Assignment place target e true delay) b h = cc
+  later_written (Assignment place target e false delay) b h = h
   later_written (Then first rest) b h = both_sides (nonblocking_bits first) (nonblocking_bits rest) (statement_bits first) (statement_bits rest) b (later_written first b) (later_written rest b) h
   later_written (If c taken other) b h = both_sides (nonblocking_bits taken) (nonblocking_bits other) (statement_bits taken) (statement_bits other) b (later_written taken b) (later_written other b) h
   later_written (Case kind subject arms) b h = later_in_arms arms b h
@@ -214,24 +217,41 @@ mutual
   later_in_arms (Arm items statement rest) b h = both_sides (nonblocking_bits statement) (arms_nonblocking rest) (statement_bits statement) (arms_bits rest) b (later_written statement b) (later_in_arms rest b) h
   later_in_arms (Default statement) b h = later_written statement b h
 
+-- and what is written by `=`
+
+mutual
+  pub blocking_written : (s : Statement) (b : ℕ) → contains (blocking_bits s) b ≡ true → contains (statement_bits s) b ≡ true
+  blocking_written Empty b h = h
+  blocking_written (Assignment place target e true delay) b h = h
+  blocking_written (Assignment place target e false delay) b h = cc
+  blocking_written (Then first rest) b h = both_sides (blocking_bits first) (blocking_bits rest) (statement_bits first) (statement_bits rest) b (blocking_written first b) (blocking_written rest b) h
+  blocking_written (If c taken other) b h = both_sides (blocking_bits taken) (blocking_bits other) (statement_bits taken) (statement_bits other) b (blocking_written taken b) (blocking_written other b) h
+  blocking_written (Case kind subject arms) b h = blocking_in_arms arms b h
+
+  blocking_in_arms : (arms : Arms) (b : ℕ) → contains (arms_blocking arms) b ≡ true → contains (arms_bits arms) b ≡ true
+  blocking_in_arms (Arm items statement rest) b h = both_sides (blocking_bits statement) (arms_blocking rest) (statement_bits statement) (arms_bits rest) b (blocking_written statement b) (blocking_in_arms rest b) h
+  blocking_in_arms (Default statement) b h = blocking_written statement b h
+
 -- and all of it is among so many bits where the statement names such bits alone
 pub walked_below : (walk : Walk) → IsOfWrites walk → (n : ℕ) (s : Statement) (b : ℕ) → fits_statement s ≡ true → statement_within n s ≡ true → contains (walked_statement walk s) b ≡ true → b < n
 walked_below W.Writes ok n s b f w h = statement_bits_within n s b f w h
 walked_below W.Nonblocking ok n s b f w h = statement_bits_within n s b f w (later_written s b h)
-walked_below W.Blocking ok n s b f w h = absurd ok
+walked_below W.Blocking ok n s b f w h = statement_bits_within n s b f w (blocking_written s b h)
 walked_below W.Reads ok n s b f w h = absurd ok
 walked_below W.Signals ok n s b f w h = absurd ok
 
 -- ---- all of them
 
-pub clash_is : (d : Design) (s : Starts) (t : Settled) (k p : ℕ) → length d.initials ≤ k → length d.processes ≤ p → AreStarts d k s → AreSettled d p t → (b : ℕ) → clash s t b ≡ (contains (initial_bits d.initials) b && clashes d b)
-clash_is d s t k p few less hs ht b =
+pub clash_is : (d : Design) (drivers : Drivers) (s : Starts) (t : Settled) (k p : ℕ) → length d.initials ≤ k → length d.processes ≤ p → AreStarts d k s → AreSettled d p t
+    → (b : ℕ) → is_driven drivers ≡ contains (written_bits d.processes) b → clash drivers s t b ≡ (contains (initial_bits d.initials) b && clashes d b)
+clash_is d drivers s t k p few less hs ht b driven =
     let all = take_all k d.initials few in
     let whole = take_all p d.processes less in
     ap₂ (λ u v. u && v) (hs.once b ∙ ap (λ is. contains (initial_bits is) b) all)
     (ap₂ (λ u v. u || v)
     (ap₂ (λ u v. u || v) (hs.twice b ∙ ap (λ is. nat_lt 1 (length (starters_from 0 is b))) all) (ht.settled b ∙ ap (λ ps. contains (settled_bits ps) b) whole))
-    (ap₂ (λ u v. u && v) (hs.late b ∙ ap (λ is. contains (late_bits is) b) all) (ht.stirring b ∙ ap (λ ps. contains (stirring_bits ps) b) whole)))
+    (ap₂ (λ u v. u && v) (hs.late b ∙ ap (λ is. contains (late_bits is) b) all)
+    (ap₂ (λ u v. u || v) (ht.stirring b ∙ ap (λ ps. contains (stirring_bits ps) b) whole) (ap₂ (λ u v. u && v) (hs.early b ∙ ap (λ is. contains (early_bits is) b) all) driven))))
 
 -- a mark is one of a bit of the list
 pub marked_within : (marks : List Bool) (b : ℕ) → is_marked marks b ≡ true → b < length marks

@@ -1,15 +1,15 @@
 -- What initial processes and the others write, one after the other.
 use Rattle.std.proofs.Common.{◌≡◌, ℕ, zero, suc, ◌+◌, ◌<◌, Bool, true, false, List, [], ◌∷◌, if◌then◌else◌, refl, sym, ap, ◌∙◌, length, arith, Some}
 use Rattle.std.specs.Prelude.{slice_get}
-use Rattle.vs_design.specs.Statements.{Statement, Empty, Assignment, Then, If, Case, Arms, Arm, Default}
+use Rattle.vs_design.specs.Statements.{Statement}
 use Rattle.vs_design.specs.Designs.{Process, Continuous, Always, is_clocked, Initial, Design}
-use Rattle.vs_design.specs.Footprints.{contains, statement_bits, arms_bits, writes_of}
-use Rattle.vs_design.specs.Races.{blocking_bits, arms_blocking, nonblocking_bits, at_once_bits}
-use Rattle.vs_design.specs.Initials.{initial_bits, late_bits, settled_bits, stirring_bits}
+use Rattle.vs_design.specs.Footprints.{contains, statement_bits, writes_of}
+use Rattle.vs_design.specs.Races.{blocking_bits, nonblocking_bits, at_once_bits}
+use Rattle.vs_design.specs.Initials.{initial_bits, late_bits, early_bits, settled_bits, stirring_bits}
 use Rattle.vs_driver.specs.declared.starts.Starts.{Starts}
 use Rattle.vs_driver.specs.declared.settled.Settled.{Settled}
 use Rattle.vs_driver.specs.Marks.{is_marked, AreStarts, AreSettled}
-use Rattle.vs_driver.proofs.Marking.{Marked, MarkedAgain, gathered_next, gathered_same, twice_next, both_sides}
+use Rattle.vs_driver.proofs.Marking.{Marked, MarkedAgain, gathered_next, gathered_same, twice_next}
 
 -- there is one of each number below the length
 pub one_there : {X : Type 0} (xs : List X) (k : ℕ) → k < length xs → (x : X) × (slice_get xs k ≡ Some x)
@@ -17,33 +17,20 @@ one_there [] k h = absurd (omega (arith, h))
 one_there (x ∷ xs) zero h = (x, refl)
 one_there (x ∷ xs) (suc k) h = one_there xs k (omega (arith, h))
 
--- ---- what is written by `=` is written
-
-mutual
-  pub blocking_written : (s : Statement) (b : ℕ) → contains (blocking_bits s) b ≡ true → contains (statement_bits s) b ≡ true
-  blocking_written Empty b h = h
-  blocking_written (Assignment place target e true) b h = h
-  blocking_written (Assignment place target e false) b h = cc
-  blocking_written (Then first rest) b h = both_sides (blocking_bits first) (blocking_bits rest) (statement_bits first) (statement_bits rest) b (blocking_written first b) (blocking_written rest b) h
-  blocking_written (If c taken other) b h = both_sides (blocking_bits taken) (blocking_bits other) (statement_bits taken) (statement_bits other) b (blocking_written taken b) (blocking_written other b) h
-  blocking_written (Case kind subject arms) b h = blocking_in_arms arms b h
-
-  blocking_in_arms : (arms : Arms) (b : ℕ) → contains (arms_blocking arms) b ≡ true → contains (arms_bits arms) b ≡ true
-  blocking_in_arms (Arm items statement rest) b h = both_sides (blocking_bits statement) (arms_blocking rest) (statement_bits statement) (arms_bits rest) b (blocking_written statement b) (blocking_in_arms rest b) h
-  blocking_in_arms (Default statement) b h = blocking_written statement b h
-
 -- ---- one initial process more
 
-pub start_noted : (d : Design) (k : ℕ) (i : Initial) (s t : Starts) (marks : List Bool) (again written later : List ℕ) → slice_get d.initials k ≡ Some i → marks ≡ s.once.items → again ≡ statement_bits i.statement → written ≡ statement_bits i.statement → later ≡ nonblocking_bits i.statement
-    → MarkedAgain marks s.twice.items t.twice.items again → Marked s.once.items t.once.items written → Marked s.late.items t.late.items later
-    → length t.once.items ≡ length s.once.items → length t.twice.items ≡ length s.twice.items → length t.late.items ≡ length s.late.items → AreStarts d k s → AreStarts d (k + 1) t
-start_noted d k i s t marks again written later at same again_is written_is later_is twice once late one_long two_long late_long h = record {
+pub start_noted : (d : Design) (k : ℕ) (i : Initial) (s t : Starts) (marks : List Bool) (again written later earlier : List ℕ) → slice_get d.initials k ≡ Some i → marks ≡ s.once.items → again ≡ statement_bits i.statement → written ≡ statement_bits i.statement → later ≡ nonblocking_bits i.statement → earlier ≡ blocking_bits i.statement
+    → MarkedAgain marks s.twice.items t.twice.items again → Marked s.once.items t.once.items written → Marked s.late.items t.late.items later → Marked s.early.items t.early.items earlier
+    → length t.once.items ≡ length s.once.items → length t.twice.items ≡ length s.twice.items → length t.late.items ≡ length s.late.items → length t.early.items ≡ length s.early.items → AreStarts d k s → AreStarts d (k + 1) t
+start_noted d k i s t marks again written later earlier at same again_is written_is later_is earlier_is twice once late early one_long two_long late_long early_long h = record {
   all_once = one_long ∙ h.all_once;
   all_twice = two_long ∙ h.all_twice;
   all_late = late_long ∙ h.all_late;
+  all_early = early_long ∙ h.all_early;
   once = gathered_next (λ (j : Initial). statement_bits j.statement) initial_bits refl (λ j js. refl) d.initials k i s.once.items t.once.items written at (λ b. ap (λ bs. contains bs b) written_is) once h.once;
   twice = twice_next d.initials k i marks s.twice.items t.twice.items again at again_is twice (λ b. ap (λ ms. is_marked ms b) same ∙ h.once b) h.twice;
   late = gathered_next (λ (j : Initial). nonblocking_bits j.statement) late_bits refl (λ j js. refl) d.initials k i s.late.items t.late.items later at (λ b. ap (λ bs. contains bs b) later_is) late h.late;
+  early = gathered_next (λ (j : Initial). blocking_bits j.statement) early_bits refl (λ j js. refl) d.initials k i s.early.items t.early.items earlier at (λ b. ap (λ bs. contains bs b) earlier_is) early h.early;
 }
 
 -- ---- one process more

@@ -15,6 +15,11 @@ are_two Nobody = false
 are_two (One p) = false
 are_two (Two p q) = true
 
+abbrev pub is_driven : Drivers → Bool
+is_driven Nobody = false
+is_driven (One p) = true
+is_driven (Two p q) = true
+
 abbrev pub drivers_at : List Drivers → ℕ → Drivers
 drivers_at table b = slice_index_or table b Nobody
 

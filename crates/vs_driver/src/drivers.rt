@@ -10,7 +10,14 @@ pub(crate) enum Drivers {
 
 impl Drivers {
     ghost use Rattle.std.specs.Prelude.{◌≡◌, ℕ, List, ◌∷◌, ◌++◌, []};
-    ghost use Rattle.vs_driver.specs.Drivers.{are_two, first_two};
+    ghost use Rattle.vs_driver.specs.Drivers.{are_two, first_two, is_driven};
+
+    /// Whether there is one.
+    pub(crate) fn is_driven(self) -> bool
+        ensures { result ≡ is_driven self }
+    {
+        !matches!(self, Drivers::Nobody)
+    }
 
     /// Whether there are two.
     pub(crate) fn are_two(self) -> bool

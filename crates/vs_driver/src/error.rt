@@ -15,7 +15,7 @@ pub enum DriverError {
         second: u32,
         at: u32,
     },
-    /// An initial process writes the bit beside another one, beside an assign or a combinational block, or by `<=` beside a clocked block that writes it by `=` (IEEE 1364-2005, 9.9.1); or two processes write it, and an initial process too. Of several bits it is the least one, and of several writers the first two in the text.
+    /// An initial process writes the bit beside another one, beside an assign or a combinational block, or by `<=` beside a clocked block that writes it by `=`, or by `<=` and by `=` beside a clocked block (IEEE 1364-2005, 9.9.1); or two processes write it, and an initial process too. Of several bits it is the least one, and of several writers the first two in the text.
     #[error("bit {bit} has two writers that may not share it")]
     TwoWriters {
         bit: u32,

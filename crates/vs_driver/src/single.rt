@@ -94,7 +94,7 @@ fn tell(
     }
 }
 
-/// Whether each bit of a design has one driver at most, or a clocked block and one initial process that may share it: it is written by one process, and if that is an assign, its target has the bit once; and an initial process writes it beside no other one, no assign and no combinational block, nor by `<=` what a clocked block writes by `=`. TwoDrivers, TwoWriters: the least bit that isn't so, and its two least writers, or its first two in the text where an initial process is one of its writers.
+/// Whether each bit of a design has one driver at most, or a clocked block and one initial process that may share it: it is written by one process, and if that is an assign, its target has the bit once; and an initial process writes it beside no other one, no assign and no combinational block, nor by `<=` what a clocked block writes by `=`, nor by both what a clocked block writes. TwoDrivers, TwoWriters: the least bit that isn't so, and its two least writers, or its first two in the text where an initial process is one of its writers.
 pub fn check(alloc: Global, typed: &Typed, footprints: &Footprints) -> Result<(), DriverError>
     requires { footprints.now ≡ footprints_of (design_of typed.now) }
     ensures single { OnOk result (driver_refusal (design_of typed.now) ≡ None) }

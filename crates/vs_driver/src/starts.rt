@@ -15,15 +15,16 @@ use vs_reads::fit_initial;
 use vs_shape::Walk;
 use vs_typed::{Typed, fits_law};
 
-/// For each bit whether an initial process writes it, whether two do, and whether one does by `<=`.
+/// For each bit whether an initial process writes it, whether two do, and whether one does by `<=` or by `=`.
 #[derive(Drop)]
 pub(crate) struct Starts {
     pub(crate) once: Vec<bool>,
     pub(crate) twice: Vec<bool>,
     pub(crate) late: Vec<bool>,
+    pub(crate) early: Vec<bool>,
 }
 
-/// The bits that initial process k writes, or those by `<=` alone.
+/// The bits that initial process k writes, or those by `<=` or by `=` alone.
 pub(crate) fn started_bits(
     alloc: Global,
     typed: &Typed,
@@ -53,6 +54,7 @@ fn note_initial(alloc: Global, typed: &Typed, k: u32, starts: &mut Starts) -> Re
     trees_law();
     let written = started_bits(alloc, typed, k, Walk::Writes)?;
     let later = started_bits(alloc, typed, k, Walk::Nonblocking)?;
+    let earlier = started_bits(alloc, typed, k, Walk::Blocking)?;
     mark_again(
         &mut starts.twice,
         starts.once.as_slice(),
@@ -60,6 +62,7 @@ fn note_initial(alloc: Global, typed: &Typed, k: u32, starts: &mut Starts) -> Re
     );
     mark(&mut starts.once, written.as_slice());
     mark(&mut starts.late, later.as_slice());
+    mark(&mut starts.early, earlier.as_slice());
     Ok(())
 }
 
@@ -72,6 +75,7 @@ pub(crate) fn starts_of(alloc: Global, typed: &Typed) -> Result<Starts, AllocErr
         once: no_marks(alloc, typed)?,
         twice: no_marks(alloc, typed)?,
         late: no_marks(alloc, typed)?,
+        early: no_marks(alloc, typed)?,
     };
     for k in 0..typed.flat().initial_count() {
         note_initial(alloc, typed, k, &mut starts)?;

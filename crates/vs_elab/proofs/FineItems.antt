@@ -35,7 +35,7 @@ all_fine said shaped fine depth h (x ∷ xs) s d c =
 
 value_fine : (env : Env) (place : ℕ) (variable : Bool) (name : tree.Name) (e : tree.Expr) → IsName name → IsExpr e → expr_depth e ≤ depth_limit
     → (if variable then value_said env name e else wire_said env place name e).faults ≡ [] → IsFineValue env variable name e
-value_fine env place true name e n x h c = record { shaped = ((n, tt), x); clean = c; shallow = omega (arith, h) }
+value_fine env place true name e n x h c = record { shaped = ((n, tt), x, tt, tt); clean = c; shallow = omega (arith, h) }
 value_fine env place false name e n x h c = record { shaped = ((n, tt), x); clean = c; shallow = omega (arith, h) }
 
 given_fine : (env : Env) (place : ℕ) (kind : tree.SignalKind) (name : tree.Name) (a : Option tree.RangeTree) (v : Option tree.Expr)

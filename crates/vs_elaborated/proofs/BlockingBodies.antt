@@ -8,6 +8,7 @@ use Rattle.vs_grammar.specs.Trees.{target_place}
 use Rattle.vs_const.specs.declared.rules.Rule.TheVariants.{FunctionRule}
 use Rattle.vs_const.specs.Meanings.{Find}
 use Rattle.vs_const.specs.Expressions.{typed}
+use Rattle.vs_const.specs.Delays.{delay_of}
 use Rattle.vs_const.proofs.Formed.{both_nil, no_fault}
 use Rattle.vs_elaborated.specs.Targets.{typed_target}
 use Rattle.vs_elaborated.specs.Statements.{Body, TypedStatement, typed_list, delayed_faults, word_faults, scope_locals, local_faults, scoped, typed_statement, typed_fallback, typed_sequence, typed_arms}
@@ -27,8 +28,8 @@ module _ (body : Body) (function : body.in_function ≡ true) where
   mutual
     pub statement_blocking : (s : tree.Statement) (find : Find) → (typed_statement s body find).faults ≡ [] → is_nil (mixed_in false (typed_statement s body find).statement) ≡ true
     statement_blocking (tree.Empty place) find h = refl
-    statement_blocking (tree.Assignment target e blocking) find h =
-        let others = word_faults body.clocked target find ++ ((typed_target target find true).faults ++ (typed e find false).faults) in
+    statement_blocking (tree.Assignment target e blocking delay) find h =
+        let others = word_faults body.clocked target find ++ ((typed_target target find true).faults ++ ((typed e find false).faults ++ (delay_of find delay).faults)) in
         let n = both_nil (delayed_faults body (target_place target) blocking) others h in
         kept (target_place target) body.in_function blocking function (no_fault (body.in_function && not blocking) FunctionRule (target_place target) n.0)
     statement_blocking (tree.If place c taken other) find h =

@@ -11,6 +11,7 @@ use Rattle.vs_const.specs.Meanings.{Meaning, AValue, Undefined, ASignal, AMemory
 use Rattle.vs_const.specs.Typed.{Typed}
 use Rattle.vs_const.specs.Selects.{Taken, word_range, is_array}
 use Rattle.vs_const.specs.Expressions.{typed, taken_by}
+use Rattle.vs_const.specs.Delays.{delay_of}
 use Rattle.vs_const.proofs.Formed.{both_nil, both}
 use Rattle.vs_elaborated.specs.Targets.{bit_target, further_target, selected_target, typed_target, typed_targets}
 use Rattle.vs_elaborated.specs.Statements.{Body, TypedStatement, typed_list, typed_statement, typed_fallback, typed_sequence, typed_arms, typed_events, typed_control, is_clocked_by, memory_faults, target_memories, targets_memories, word_faults, delayed_faults, scope_locals, local_faults, scoped, unrolled_within}
@@ -67,8 +68,8 @@ module _ (body : Body) (unclocked : body.clocked ≡ false) where
   mutual
     pub statement_wordless : (s : tree.Statement) (find : Find) → (typed_statement s body find).faults ≡ [] → writes_no_word (typed_statement s body find).statement ≡ true
     statement_wordless (tree.Empty place) find h = refl
-    statement_wordless (tree.Assignment target e blocking) find h =
-        assignment_wordless target find blocking (target_place target) ((typed_target target find true).faults ++ (typed e find false).faults) h
+    statement_wordless (tree.Assignment target e blocking delay) find h =
+        assignment_wordless target find blocking (target_place target) ((typed_target target find true).faults ++ ((typed e find false).faults ++ (delay_of find delay).faults)) h
     statement_wordless (tree.If place c taken other) find h =
         let n = both_nil (typed c find false).faults ((typed_statement taken body find).faults ++ (typed_fallback other body find).faults) h in
         let m = both_nil (typed_statement taken body find).faults (typed_fallback other body find).faults n.1 in

@@ -86,7 +86,7 @@ module _ (d : Design) (env : Env) (s : AreSoundFrames d false env.frames) where
       four false b c e h k l m = cc
 
   value_fine : (n : tree.Name) (e : tree.Expr) → IsName n → IsExpr e → (value_said env n e).faults ≡ [] → AreFinePieces d (value_said env n e).pieces
-  value_fine n e x y h = (statement_fine d initial_body (λ place. tt) (tree.Assignment (tree.NamedTarget n tree.Whole) e true) (named env) (named_sound d false env s) ((x, tt), y) h, tt)
+  value_fine n e x y h = (statement_fine d initial_body (λ place. tt) (tree.Assignment (tree.NamedTarget n tree.Whole) e true None) (named env) (named_sound d false env s) ((x, tt), y, tt, tt) h, tt)
 
   declarator_fine : (place : ℕ) (kind : tree.SignalKind) (w : tree.Declarator) → IsDeclarator w → (declarator_said env place kind w).faults ≡ [] → AreFinePieces d (declarator_said env place kind w).pieces
   declarator_fine place kind w x h = of w.name w.value x h

@@ -19,6 +19,7 @@ use Rattle.vs_const.specs.declared.rules.Rule.{Rule}
 use Rattle.vs_const.specs.declared.faults.Fault.{Fault}
 use Rattle.vs_const.specs.Faults.{fault, fault_if}
 use Rattle.vs_const.specs.Expressions.{typed, taken_by}
+use Rattle.vs_const.specs.Delays.{delay_of}
 use Rattle.vs_const.specs.Typed.{Typed, natural}
 use Rattle.vs_const.specs.Sound.{IsSound, AreSound, IsFine}
 use Rattle.vs_const.proofs.Steady.{sound_needed, first_sound, steady_sound}
@@ -324,13 +325,14 @@ module _ (d : Design) (body : Body) (b : IsSoundBody d body) where
   mutual
     pub statement_fine : (st : tree.Statement) (find : Find) → AreSound d false find → IsStatement st → (typed_statement st body find).faults ≡ [] → is_formed_statement d (typed_statement st body find).statement ≡ true
     statement_fine (tree.Empty place) find s x h = refl
-    statement_fine (tree.Assignment target e blocking) find s x h =
+    statement_fine (tree.Assignment target e blocking delay) find s x h =
         let t = typed_target target find true in
         let v = typed e find false in
-        let n = both_nil (delayed_faults body (target_place target) blocking) (word_faults body.clocked target find ++ (t.faults ++ v.faults)) h in
-        let m = both_nil (word_faults body.clocked target find) (t.faults ++ v.faults) n.1 in
-        let l = both_nil t.faults v.faults m.1 in
-        both (is_formed_target d is_variable t.target) (is_formed d v.expression) (target_fine d find s target true x.0 l.0).formed (typed_fine d find e false s x.1 l.1).formed
+        let w = (delay_of find delay).faults in
+        let n = both_nil (delayed_faults body (target_place target) blocking) (word_faults body.clocked target find ++ (t.faults ++ (v.faults ++ w))) h in
+        let m = both_nil (word_faults body.clocked target find) (t.faults ++ (v.faults ++ w)) n.1 in
+        let l = both_nil t.faults (v.faults ++ w) m.1 in
+        both (is_formed_target d is_variable t.target) (is_formed d v.expression) (target_fine d find s target true x.0 l.0).formed (typed_fine d find e false s x.1 (both_nil v.faults w l.1).0).formed
     statement_fine (tree.If place c taken other) find s x h =
         let one = typed_statement taken body find in
         let two = typed_fallback other body find in

@@ -65,7 +65,7 @@ variables_shaped used (v ∷ vs) x = of (is_integer v && not (used v.name.bytes)
 mutual
   block_shaped : (s : tree.Statement) → IsStatement s → Each IsShapedLocal (block_locals s)
   block_shaped (tree.Empty place) x = tt
-  block_shaped (tree.Assignment target e blocking) x = tt
+  block_shaped (tree.Assignment target e blocking delay) x = tt
   block_shaped (tree.If place c taken other) x = each_append IsShapedLocal (block_locals taken) (fallback_locals other) (block_shaped taken x.1) (fallback_shaped other x.2)
   block_shaped (tree.Case place kind subject arms other) x = each_append IsShapedLocal (arms_locals arms) (fallback_locals other) (arms_shaped arms x.1) (fallback_shaped other x.2)
   block_shaped (tree.Sequence place scope parts) x =

@@ -58,7 +58,7 @@ module _ (around first : ℕ) where
   mutual
     statement_nests : (s : tree.Statement) (outer : Option ℕ) (next : ℕ) (w way : List ℕ) → Leads outer w way → IsBefore outer next → Nest outer next w way (blocks_in s outer next)
     statement_nests (tree.Empty place) outer next w way l b = no_blocks outer next w way l
-    statement_nests (tree.Assignment target e blocking) outer next w way l b = no_blocks outer next w way l
+    statement_nests (tree.Assignment target e blocking delay) outer next w way l b = no_blocks outer next w way l
     statement_nests (tree.If place c taken other) outer next w way l b =
         let bs = blocks_in taken outer next in
         both_nest outer next w way bs (blocks_in_fallback other outer (next + length bs)) (statement_nests taken outer next w way l b)

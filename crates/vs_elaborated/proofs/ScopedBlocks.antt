@@ -47,7 +47,7 @@ with_shaped scope parts outer (v ∷ vs) x = (x, tt)
 mutual
   pub blocks_shaped : (s : tree.Statement) (outer : Option ℕ) (next : ℕ) → IsStatement s → AreShapedBlocks (blocks_in s outer next)
   blocks_shaped (tree.Empty place) outer next x = tt
-  blocks_shaped (tree.Assignment target e blocking) outer next x = tt
+  blocks_shaped (tree.Assignment target e blocking delay) outer next x = tt
   blocks_shaped (tree.If place c taken other) outer next x =
       let bs = blocks_in taken outer next in
       each_append (λ (b : NamedBlock). Each IsShapedLocal b.variables) bs (blocks_in_fallback other outer (next + length bs)) (blocks_shaped taken outer next x.1) (fallback_shaped other outer (next + length bs) x.2)

@@ -41,7 +41,7 @@ block_before scope (v ∷ vs) parts f outer next h =
 mutual
   statement_before : (s : tree.Statement) (outer : Option ℕ) (next : ℕ) → IsBefore next outer → AreBefore next (blocks_in s outer next)
   statement_before (tree.Empty place) outer next h = tt
-  statement_before (tree.Assignment target e blocking) outer next h = tt
+  statement_before (tree.Assignment target e blocking delay) outer next h = tt
   statement_before (tree.If place c taken other) outer next h =
       let bs = blocks_in taken outer next in
       both_before next bs (blocks_in_fallback other outer (next + length bs)) (statement_before taken outer next h) (fallback_before other outer (next + length bs) (before_more outer next (length bs) h))

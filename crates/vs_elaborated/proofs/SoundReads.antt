@@ -10,7 +10,7 @@ use Rattle.vs_const.specs.declared.mentions.Way.TheVariants.{ByCall}
 use Rattle.vs_const.specs.Mentions.{Mention, named_mentions, called_mentions, mentions, select_mentions, all_mentions}
 use Rattle.vs_const.specs.Sound.{IsSoundSignal, AreSoundSignals, IsSound, AreSound}
 use Rattle.vs_elaborated.specs.Statements.{Local, find_local, local_or, scope_locals}
-use Rattle.vs_elaborated.specs.Reads.{hidden, label_mentions, target_mentions, targets_mentions, statement_mentions, fallback_mentions, sequence_mentions, arms_mentions, distinct, read_signals}
+use Rattle.vs_elaborated.specs.Reads.{hidden, label_mentions, delay_mentions, target_mentions, targets_mentions, statement_mentions, fallback_mentions, sequence_mentions, arms_mentions, distinct, read_signals}
 use Rattle.vs_elaborated.proofs.EachOf.{each_append}
 
 abbrev IsSoundMention : Design → Mention → Type 0
@@ -93,10 +93,15 @@ hidden_sound d locals find sound name = of (find_local locals name)
     of None = sound name
     of (Some v) = tt
 
+delay_mentioned : (d : Design) (delay : Option tree.Expr) (find : Find) → AreSound d false find → AreSoundMentions d (delay_mentions delay find)
+delay_mentioned d None find k = tt
+delay_mentioned d (Some e) find k = mentioned d find k e false
+
 mutual
   statement_mentioned : (d : Design) (s : tree.Statement) (find : Find) → AreSound d false find → AreSoundMentions d (statement_mentions s find)
   statement_mentioned d (tree.Empty place) find k = tt
-  statement_mentioned d (tree.Assignment target e blocking) find k = two d (target_mentions target find) (mentions e find false) (target_mentioned d find k target) (mentioned d find k e false)
+  statement_mentioned d (tree.Assignment target e blocking delay) find k =
+      two d (target_mentions target find) (mentions e find false ++ delay_mentions delay find) (target_mentioned d find k target) (two d (mentions e find false) (delay_mentions delay find) (mentioned d find k e false) (delay_mentioned d delay find k))
   statement_mentioned d (tree.If place c taken other) find k =
       two d (mentions c find false) (statement_mentions taken find ++ fallback_mentions other find) (mentioned d find k c false)
       (two d (statement_mentions taken find) (fallback_mentions other find) (statement_mentioned d taken find k) (fallback_mentioned d other find k))

@@ -3,7 +3,7 @@ use Rattle.std.specs.List.{flat_map}
 use Rattle.std.proofs.Common.{◌≡◌, ◌≤◌, ◌+◌, ◌-◌, ℕ, zero, suc, Bool, true, false, List, [], ◌∷◌, ◌++◌, Option, Some, None, if◌then◌else◌, nat_lt, refl, ap, ◌∙◌, arith, append-nil}
 use Rattle.vs_four.specs.Logic.{BitList, truth}
 use Rattle.vs_four.specs.Tables.{is_one}
-use Rattle.vs_net.specs.Network.{State, Write, Update, write_all, Effect}
+use Rattle.vs_net.specs.Network.{State, Write, Delayed, write_all, Effect}
 use Rattle.vs_design.specs.Expressions.{items_of, width, sign}
 use Rattle.vs_design.specs.Values.{value, own_value}
 use Rattle.vs_design.specs.Statements.{CaseKind, arms_width, arms_sign, widest, all_signed}
@@ -32,7 +32,7 @@ both_conds false x y v w e f = f
 both_same : (x y : Effect) (f g : State → Effect) (s : State) → x ≡ y → ((t : State) → f t ≡ g t) → both_effects x (f (write_all s x.writes)) ≡ both_effects y (g (write_all s y.writes))
 both_same x y f g s e h = ap {B = Effect} (λ (z : Effect). both_effects z (f (write_all s z.writes))) e ∙ ap {B = Effect} (λ z. both_effects y z) (h (write_all s y.writes))
 
-effect : List Write → List Update → Effect
+effect : List Write → List Delayed → Effect
 effect ws us = record { writes = ws; updates = us }
 
 nothing_after : (x : Effect) → both_effects x no_effect ≡ x
@@ -147,7 +147,7 @@ module _ (bound : ℕ) (long : most_turns ≤ bound) (b : Body) where
   mutual
     pub statement_runs : (s : tree.Statement) (find : Find) (state : State) → (typed_statement s b find).faults ≡ [] → runs bound s b.declared find state ≡ does (typed_statement s b find).statement state
     statement_runs (tree.Empty place) find state h = refl
-    statement_runs (tree.Assignment target e blocking) find state h = refl
+    statement_runs (tree.Assignment target e blocking delay) find state h = refl
     statement_runs (tree.If place c taken other) find state h =
         let one = typed_statement taken b find in
         let two = typed_fallback other b find in

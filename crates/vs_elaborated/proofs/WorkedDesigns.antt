@@ -3,7 +3,7 @@ use Rattle.std.specs.Prelude.{refl}
 use Rattle.vs_lexer.specs.Spellings.{signs, keywords, left_out_words, system_names}
 use Rattle.vs_lexer.specs.Tokens.{word_kind, system_kind, sign_kind}
 use Rattle.vs_lexer.specs.Literals.{is_in_range, number_bits, literal_bits, literal_size, is_signed_literal, has_size}
-use Rattle.vs_elaborated.specs.ExampleDesigns.{WholeDesigns, Parameters, Overrides, ConvertedOverrides, Ports, Connections, Numbered, Blocks, Names, LoopsAndFunctions, IntegerVariables, NamedBlocks, ArraysOfNets, InitialValues}
+use Rattle.vs_elaborated.specs.ExampleDesigns.{WholeDesigns, Parameters, Overrides, ConvertedOverrides, Ports, Connections, Numbered, Blocks, Names, LoopsAndFunctions, IntegerVariables, NamedBlocks, ArraysOfNets, InitialValues, Delays}
 use Rattle.vs_elaborated.proofs.WorkedTexts.{elaborates, shows, alike}
 
 pub whole_designs : WholeDesigns
@@ -174,4 +174,14 @@ initial_values = record {
   port = alike refl refl;
   memory = alike refl refl;
   behind = shows refl;
+}
+
+pub delays : Delays
+unfolding is_in_range word_kind system_kind sign_kind signs keywords left_out_words system_names literal_bits is_signed_literal has_size literal_size number_bits
+delays = record {
+  whole = shows refl;
+  zero = alike refl refl;
+  parameter = alike refl refl;
+  brackets = alike refl refl;
+  loop = alike refl refl;
 }

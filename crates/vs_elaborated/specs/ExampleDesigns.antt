@@ -6,6 +6,7 @@ use Rattle.vs_design.specs.Expressions.{Signal, signal_length, BitNot, Add, BitA
 use Rattle.vs_design.specs.Values.{assigned_value}
 use Rattle.vs_design.specs.Statements.{Whole, WordOf, Statement, Empty, Assignment, If}
 use Rattle.vs_design.specs.Designs.{Scope, Written, InputPort, OutputPort, Continuous, Initial, Design}
+use Rattle.vs_design.specs.ExampleDelays.{d1, q2, delayed}
 use Rattle.vs_design.specs.ExampleParts.{input_of, wire_of, reg_of, range_of, to_zero, clk_signal, blocking, on_posedge, on_star, top_scope, design_of}
 use Rattle.vs_elaborated.specs.Limits.{the_limits}
 use Rattle.vs_elaborated.specs.Worked.{Elaborates, Shows, AreAlike, unplaced_processes}
@@ -60,7 +61,7 @@ m5 = record { name = codes "m"; scope = 0; number = 5; net = false; input = fals
 abbrev pub memory_design : Design
 memory_design =
     design_of (clk_signal ∷ w1 ∷ a2 ∷ d3 ∷ q4 ∷ m5 ∷ [])
-    (on_posedge 40 clk_signal (If (At 48 (Name w1)) (Assignment 50 (WordOf m5 (At 52 (Name a2))) (At 55 (Name d3)) false) Empty) ∷ Continuous 57 Written 58 (Whole q4) (At 60 (Word m5 (At 62 (Name a2)))) ∷ [])
+    (on_posedge 40 clk_signal (If (At 48 (Name w1)) (Assignment 50 (WordOf m5 (At 52 (Name a2))) (At 55 (Name d3)) false 0) Empty) ∷ Continuous 57 Written 58 (Whole q4) (At 60 (Word m5 (At 62 (Name a2)))) ∷ [])
 
 -- the addresses of each signal
 abbrev pub addresses_of : Design → List (Option Range)
@@ -306,7 +307,7 @@ abbrev pub max_header : Header
 max_header = record { place = 31; inputs = u0 ∷ v1 ∷ []; result = max2; own = [] }
 
 abbrev pub max_statement : Statement
-max_statement = If (At 58 (Binary Greater (At 58 (Name u0)) (At 60 (Name v1)))) (Assignment 62 (Whole max2) (At 64 (Name u0)) true) (Assignment 67 (Whole max2) (At 69 (Name v1)) true)
+max_statement = If (At 58 (Binary Greater (At 58 (Name u0)) (At 60 (Name v1)))) (Assignment 62 (Whole max2) (At 64 (Name u0)) true 0) (Assignment 67 (Whole max2) (At 69 (Name v1)) true 0)
 
 -- its design
 abbrev pub max_design : Design
@@ -330,7 +331,7 @@ abbrev pub plus_header : Header
 plus_header = record { place = 31; inputs = u0 ∷ b_passed ∷ []; result = plus2; own = [] }
 
 abbrev pub plus_statement : Statement
-plus_statement = Assignment 48 (Whole plus2) (At 50 (Binary Add (At 50 (Name u0)) (At 52 (Name b_passed)))) true
+plus_statement = Assignment 48 (Whole plus2) (At 50 (Binary Add (At 50 (Name u0)) (At 52 (Name b_passed)))) true 0
 
 abbrev pub plus_design : Design
 plus_design =
@@ -447,3 +448,22 @@ pub record InitialValues : Type 0 where
   -- the ports of an instance are processes before those within it
   pub behind : Shows behinds (0 ∷ 2 ∷ 3 ∷ 3 ∷ [])
       (codes "module m(input p, output reg q = 1'b0); wire x = p; initial q <= 1'b1; endmodule module top(input a); reg r = 1'b1; wire w; m u(a, w); initial r = 1'b0; endmodule")
+
+-- ---- delays (9.2.2)
+
+-- a clocked update a unit of time after its run
+abbrev pub delay_text : List ℕ
+delay_text = codes "module top(input clk, input d, output reg q); always @(posedge clk) q <= #1 d; endmodule"
+
+abbrev pub delay_design : Design
+delay_design = design_of (clk_signal ∷ d1 ∷ q2 ∷ []) (on_posedge 14 clk_signal (delayed 20 1 q2 (At 24 (Name d1))) ∷ [])
+
+-- a delay is a constant
+pub record Delays : Type 0 where
+  pub whole : Shows itself delay_design delay_text
+  pub zero : AreAlike (items (codes "reg a, q; always @(posedge a) q <= #0 a;")) (items (codes "reg a, q; always @(posedge a) q <= a;"))
+  pub parameter : AreAlike (items (codes "localparam P = 2; reg a, q; always @(posedge a) q <= #P a;")) (items (codes "reg a, q; always @(posedge a) q <= #2 a;"))
+  pub brackets : AreAlike (items (codes "localparam P = 2; reg a, q; always @(posedge a) q <= #(P + 1) a;")) (items (codes "reg a, q; always @(posedge a) q <= #3 a;"))
+  -- it may name the integer of a loop
+  pub loop : AreAlike (items (codes "reg a; reg [1:0] q; integer i; always @(posedge a) for (i = 0; i < 2; i = i + 1) q[i] <= #i a;"))
+      (items (codes "reg a; reg [1:0] q; always @(posedge a) begin q[32'sd0] <= a; q[32'sd1] <= #1 a; ; end"))

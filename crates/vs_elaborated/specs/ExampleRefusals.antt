@@ -16,6 +16,7 @@ pub record NotConstants : Type 0 where
   pub label : AreRefused NotConstant (codes "case (1) ") (codes "a: ; endcase")
   -- also the index of an assign's target, and of an output's
   pub target : AreRefused NotConstant (codes "wire [3:0] w; assign w[") (codes "a] = a;")
+  pub delay : AreRefused NotConstant (codes "reg r; always @(posedge a) r <= #") (codes "a a;")
   pub output_target : IsRefused NotConstant (codes "module m(output q); endmodule module top(input a, output [1:0] y); m u(.q(y[") (codes "a])); endmodule")
   -- a memory is none, by its name or by a word (4.9)
   pub memory : AreRefused NotConstant (codes "reg m [0:1]; localparam P = ") (codes "m;")
@@ -38,6 +39,7 @@ pub record UnknownConstants : Type 0 where
   pub count : AreRefused UnknownConstant (codes "assign y = {") (codes "1'bx{a}};")
   pub condition : AreRefused UnknownConstant (codes "if (") (codes "1'bz) ;")
   pub logarithm : AreRefused UnknownConstant (codes "assign y = $clog2(") (codes "4'bx);")
+  pub delay : AreRefused UnknownConstant (codes "reg r; always @(posedge a) r <= #") (codes "1'bx a;")
   pub array : AreRefused UnknownConstant (codes "wire n [0:1]; assign y = n[") (codes "1'bx];")
   pub value : AreRefused UnknownConstant (codes "genvar i; for (i = ") (codes "1'bx; i < 2; i = i + 1) ;")
   -- each label is looked at, also behind the one that is taken
@@ -57,6 +59,7 @@ pub record UnknownNames : Type 0 where
   pub read : AreRefused UnknownName (codes "assign y = ") (codes "q;")
   pub written : AreRefused UnknownName (codes "assign ") (codes "q = a;")
   pub event : AreRefused UnknownName (codes "always @(posedge ") (codes "q) ;")
+  pub delay : AreRefused UnknownName (codes "reg r; always @(posedge a) r <= #") (codes "P z;")
   pub variable : AreRefused UnknownName (codes "for (") (codes "i = 0; i < 2; i = i + 1) ;")
   -- a port without a direction (12.3.3)
   pub port : IsRefused UnknownName (codes "module top(a, ") (codes "b); input a; endmodule")
@@ -123,6 +126,8 @@ pub record BadRanges : Type 0 where
   pub no_count : AreRefused BadRange (codes "assign y = {") (codes "0{a}};")
   pub count : AreRefused BadRange (codes "assign y = {") (codes "65{a}};")
   pub constant : AreRefused BadRange (codes "localparam P = ") (codes "{33'd0, 32'd0};")
+  -- a delay has at most 1,000,000 units
+  pub delay : AreRefused BadRange (codes "reg r; always @(posedge a) r <= #") (codes "1000001 a;")
   -- a genvar isn't negative, not even behind its last turn
   pub genvar : AreRefused BadRange (codes "genvar i; for (i = 1; i >= 0; i = ") (codes "i - 1) ;")
   pub genvar_sign : AreRefused BadRange (codes "genvar i; for (i = 0; i < 1; i = ") (codes "40'h80000000) ;")

@@ -41,7 +41,7 @@ variables_of is_variable (v ∷ vs) = if is_integer v && not (is_variable v.name
 abbrev mutual
   pub block_locals : tree.Statement → List Local
   block_locals (tree.Empty place) = []
-  block_locals (tree.Assignment target e blocking) = []
+  block_locals (tree.Assignment target e blocking delay) = []
   block_locals (tree.If place c taken other) = block_locals taken ++ fallback_locals other
   block_locals (tree.Case place kind subject arms other) = arms_locals arms ++ fallback_locals other
   block_locals (tree.Sequence place scope parts) = variables_of (is_variable_among parts) (scope_locals scope) ++ sequence_locals parts

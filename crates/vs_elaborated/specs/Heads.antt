@@ -36,7 +36,7 @@ head_of None name env = head_of_entry name.place (find_name env.frames name.byte
 abbrev mutual
   pub headed : tree.Statement → List Local → Env → List Head
   headed (tree.Empty place) locals env = []
-  headed (tree.Assignment target e blocking) locals env = []
+  headed (tree.Assignment target e blocking delay) locals env = []
   headed (tree.If place c taken other) locals env = headed taken locals env ++ headed_fallback other locals env
   headed (tree.Case place kind subject arms other) locals env = headed_arms arms locals env ++ headed_fallback other locals env
   headed (tree.Sequence place scope parts) locals env = headed_sequence parts (scope_locals scope ++ locals) env

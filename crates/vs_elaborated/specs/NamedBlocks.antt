@@ -42,7 +42,7 @@ outer_within (b ∷ bs) outer next = Some next
 abbrev mutual
   pub blocks_in : tree.Statement → (outer : Option ℕ) → (next : ℕ) → List NamedBlock
   blocks_in (tree.Empty place) outer next = []
-  blocks_in (tree.Assignment target e blocking) outer next = []
+  blocks_in (tree.Assignment target e blocking delay) outer next = []
   blocks_in (tree.If place c taken other) outer next = let bs = blocks_in taken outer next in bs ++ blocks_in_fallback other outer (next + length bs)
   blocks_in (tree.Case place kind subject arms other) outer next = let bs = blocks_in_arms arms outer next in bs ++ blocks_in_fallback other outer (next + length bs)
   blocks_in (tree.Sequence place scope parts) outer next =

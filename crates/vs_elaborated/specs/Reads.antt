@@ -1,5 +1,5 @@
 -- The signals that statements come to, by their names or through the functions that they call, in the order of the text (IEEE 1364-2005, 9.7.5 and 10.4.4).
-use Rattle.std.specs.Prelude.{ℕ, false, List, [], ◌∷◌, ◌++◌, map, if◌then◌else◌}
+use Rattle.std.specs.Prelude.{ℕ, false, List, [], ◌∷◌, ◌++◌, map, if◌then◌else◌, Option, Some, None}
 use Rattle.vs_design.specs.Footprints.{contains}
 use Rattle.vs_grammar.specs.Trees as tree
 use Rattle.vs_const.specs.declared.rules.Rule.TheVariants.{LoopVariable}
@@ -16,6 +16,11 @@ abbrev pub label_mentions : List tree.Expr → Find → List Mention
 label_mentions [] find = []
 label_mentions (e ∷ es) find = mentions e find false ++ label_mentions es find
 
+-- a delay, which is a constant
+abbrev pub delay_mentions : Option tree.Expr → Find → List Mention
+delay_mentions None find = []
+delay_mentions (Some e) find = mentions e find false
+
 -- what is written isn't read, but what it is selected with is
 abbrev mutual
   pub target_mentions : tree.Target → Find → List Mention
@@ -30,7 +35,7 @@ abbrev mutual
 abbrev mutual
   pub statement_mentions : tree.Statement → Find → List Mention
   statement_mentions (tree.Empty place) find = []
-  statement_mentions (tree.Assignment target e blocking) find = target_mentions target find ++ mentions e find false
+  statement_mentions (tree.Assignment target e blocking delay) find = target_mentions target find ++ (mentions e find false ++ delay_mentions delay find)
   statement_mentions (tree.If place c taken other) find = mentions c find false ++ (statement_mentions taken find ++ fallback_mentions other find)
   statement_mentions (tree.Case place kind subject arms other) find = mentions subject find false ++ (arms_mentions arms find ++ fallback_mentions other find)
   statement_mentions (tree.Sequence place scope parts) find = sequence_mentions parts (hidden (scope_locals scope) find)

@@ -10,10 +10,11 @@ use Rattle.vs_design.specs.Bodies.{effect_of, no_effect, both_effects, assignmen
 use Rattle.vs_grammar.specs.Trees as tree
 use Rattle.vs_const.specs.Meanings.{Meaning, Find, turning}
 use Rattle.vs_const.specs.Expressions.{typed, constant}
+use Rattle.vs_const.specs.Delays.{delay_of}
 use Rattle.vs_elaborated.specs.Limits.{Limits}
 use Rattle.vs_elaborated.specs.Environments.{Env, named}
 use Rattle.vs_elaborated.specs.Targets.{typed_target}
-use Rattle.vs_elaborated.specs.Statements.{Body, typed_list, scope_locals, scoped, given, goes_on, most_turns, unrolled_within}
+use Rattle.vs_elaborated.specs.Statements.{Body, units, typed_list, scope_locals, scoped, given, goes_on, most_turns, unrolled_within}
 use Rattle.vs_elaborated.specs.Functions.{locals_in, function_body, function_names, said_function}
 use Rattle.vs_elaborated.specs.Pieces.{ScopedBlock}
 use Rattle.vs_elaborated.specs.Surveys.{Loops, Totals, block_body, scoped_body, block_statement, plain_block_said, scoped_signals, scoped_statement, initial_body, initial_statement, initial_said}
@@ -41,7 +42,7 @@ run_turns (suc left) run head find (Some bits) state =
 abbrev mutual
   pub runs : (bound : ℕ) → tree.Statement → (declared : ℕ → Meaning) → Find → State → Effect
   runs bound (tree.Empty place) declared find state = no_effect
-  runs bound (tree.Assignment target e blocking) declared find state = effect_of blocking (assignment_writes (typed_target target find true).target (typed e find false).expression state)
+  runs bound (tree.Assignment target e blocking delay) declared find state = effect_of blocking (units (delay_of find delay).number) (assignment_writes (typed_target target find true).target (typed e find false).expression state)
   runs bound (tree.If place c taken other) declared find state =
       if is_one (truth (own_value (typed c find false).expression state)) then runs bound taken declared find state else run_fallback bound other declared find state
   runs bound (tree.Case place kind subject arms other) declared find state =

@@ -16,8 +16,9 @@ use Rattle.vs_const.specs.declared.rules.Rule.{Rule}
 use Rattle.vs_const.specs.declared.rules.Rule.TheVariants.{UnknownName, DuplicateName, WrongKind, LoopTurns, LoopVariable, FunctionRule}
 use Rattle.vs_const.specs.Meanings.{Meaning, AValue, ASignal, AMemory, Barred, Unknown, Find, turning}
 use Rattle.vs_const.specs.Selects.{wrong_rule}
-use Rattle.vs_const.specs.Typed.{Typed}
+use Rattle.vs_const.specs.Typed.{Typed, Natural}
 use Rattle.vs_const.specs.Expressions.{typed, constant, is_clean}
+use Rattle.vs_const.specs.Delays.{delay_of}
 use Rattle.vs_elaborated.specs.Targets.{meant_signal, typed_target}
 
 -- What a statement stands in, a block or a function: what a variable or an integer of a named block means that is declared at this place (9.8.2), whether it is a function (10.4), whether variables of named blocks are taken, as they are in functions and in always blocks, whether it is a
@@ -92,16 +93,21 @@ not_there faults = record { statement = Empty; size = 0; copies = 0; faults = fa
 abbrev pub delayed_faults : Body → (place : ℕ) → (blocking : Bool) → List Fault
 delayed_faults body place blocking = fault_if (body.in_function && not blocking) FunctionRule place
 
--- `target = e` or `target <= e` (9.2)
-abbrev pub assignment : Body → tree.Target → Find → Typed → Bool → TypedStatement
-assignment body target find e blocking =
+-- of a number that a fault leaves undefined nothing is left
+abbrev pub units : Option ℕ → ℕ
+units None = 0
+units (Some n) = n
+
+-- `target = e`, or `target <= #delay e` (9.2)
+abbrev pub assignment : Body → tree.Target → Find → Typed → Bool → Natural → TypedStatement
+assignment body target find e blocking delay =
     let place = target_place target in
     let t = typed_target target find true in
     record {
-      statement = Assignment place t.target e.expression blocking;
+      statement = Assignment place t.target e.expression blocking (units delay.number);
       size = 1;
       copies = 0;
-      faults = delayed_faults body place blocking ++ (word_faults body.clocked target find ++ (t.faults ++ e.faults));
+      faults = delayed_faults body place blocking ++ (word_faults body.clocked target find ++ (t.faults ++ (e.faults ++ delay.faults)));
     }
 
 -- `if (c) s else t` (9.4)
@@ -228,7 +234,7 @@ loop_done body copy head find =
 abbrev mutual
   pub typed_statement : tree.Statement → Body → Find → TypedStatement
   typed_statement (tree.Empty place) body find = nothing_done []
-  typed_statement (tree.Assignment target e blocking) body find = assignment body target find (typed e find false) blocking
+  typed_statement (tree.Assignment target e blocking delay) body find = assignment body target find (typed e find false) blocking (delay_of find delay)
   typed_statement (tree.If place c taken other) body find = conditional (typed c find false) (typed_statement taken body find) (typed_fallback other body find)
   typed_statement (tree.Case place kind subject arms other) body find =
       let e = typed subject find false in

@@ -12,6 +12,7 @@ use Rattle.vs_const.specs.Faults.{fault, fault_if}
 use Rattle.vs_const.specs.declared.rules.Rule.TheVariants.{DuplicateName, TooManyBits, TooManyProcesses, LoopVariable}
 use Rattle.vs_const.specs.Meanings.{Meaning, Barred, Find}
 use Rattle.vs_const.specs.Expressions.{typed}
+use Rattle.vs_const.specs.Delays.{delay_of}
 use Rattle.vs_elaborated.specs.Limits.{Limits}
 use Rattle.vs_elaborated.specs.Environments.{OfScope, Entry, Env, within, with_turn, find_entry, named, Turn}
 use Rattle.vs_elaborated.specs.Targets.{typed_target}
@@ -56,7 +57,7 @@ initial_body = record { declared = λ place. Barred LoopVariable; in_function = 
 -- `reg q = e` is `initial q = e` in its place (6.2.1)
 abbrev pub value_said : Env → tree.Name → tree.Expr → Said
 value_said env name e =
-    let s = assignment initial_body (tree.NamedTarget name tree.Whole) (named env) (typed e (named env) false) true in
+    let s = assignment initial_body (tree.NamedTarget name tree.Whole) (named env) (typed e (named env) false) true (delay_of (named env) None) in
     one_said (Initially name.place s.statement) s.faults
 
 -- `wire w = e` is an assign too (6.1.1)

@@ -31,7 +31,7 @@ hides name (Some scope) = declares name scope.variables
 abbrev mutual
   pub uses : (as_head : Bool) → List ℕ → tree.Statement → Bool
   uses as_head name (tree.Empty place) = false
-  uses as_head name (tree.Assignment target e blocking) = not as_head && is_target name target
+  uses as_head name (tree.Assignment target e blocking delay) = not as_head && is_target name target
   uses as_head name (tree.If place c taken other) = uses as_head name taken || uses_fallback as_head name other
   uses as_head name (tree.Case place kind subject arms other) = uses_arms as_head name arms || uses_fallback as_head name other
   uses as_head name (tree.Sequence place scope parts) = not (hides name scope) && uses_sequence as_head name parts

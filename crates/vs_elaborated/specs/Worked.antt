@@ -86,7 +86,7 @@ abbrev mutual
 
   pub unplaced_statement : Statement → Statement
   unplaced_statement Empty = Empty
-  unplaced_statement (Assignment place target e blocking) = Assignment 0 (unplaced_target target) (unplaced e) blocking
+  unplaced_statement (Assignment place target e blocking delay) = Assignment 0 (unplaced_target target) (unplaced e) blocking delay
   unplaced_statement (Then first rest) = Then (unplaced_statement first) (unplaced_statement rest)
   unplaced_statement (If c taken other) = If (unplaced c) (unplaced_statement taken) (unplaced_statement other)
   unplaced_statement (Case kind subject arms) = Case kind (unplaced subject) (unplaced_arms arms)

@@ -1,6 +1,6 @@
 //! What holds of every elaborated design, and worked texts.
 
-ghost use Rattle.vs_elaborated.specs.ExampleDesigns.{WholeDesigns, Parameters, Overrides, ConvertedOverrides, Ports, Connections, Numbered, Blocks, Names, LoopsAndFunctions, IntegerVariables, NamedBlocks, ArraysOfNets, InitialValues};
+ghost use Rattle.vs_elaborated.specs.ExampleDesigns.{WholeDesigns, Parameters, Overrides, ConvertedOverrides, Ports, Connections, Numbered, Blocks, Names, LoopsAndFunctions, IntegerVariables, NamedBlocks, ArraysOfNets, InitialValues, Delays};
 ghost use Rattle.vs_elaborated.specs.ExampleRefusals.{NotConstants, UnknownConstants, WrongModules, UnknownNames, RepeatedNames, BadRanges, WrongConnections, WrongKinds, OtherKinds, LoopVariables, FunctionRules, FirstFaults, Limited};
 ghost use Rattle.vs_elaborated.specs.Laws.{DepthIsEnough, ElaboratedIsLawful};
 ghost use Rattle.vs_elaborated.specs.Numbers.{FunctionNamesAreNumbered, FunctionsAreCounted, FunctionsAreNumbered, MoreFunctionsStand, NamesAreNumbered, NumbersStay, ScopesAreNumbered};
@@ -85,6 +85,7 @@ pub fn design_examples()
     ensures named_blocks { NamedBlocks }
     ensures arrays_of_nets { ArraysOfNets }
     ensures initial_values { InitialValues }
+    ensures delays { Delays }
 {}
 
 /// Worked refusals: each rule of elaboration, and where it is broken.

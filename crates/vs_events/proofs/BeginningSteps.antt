@@ -3,12 +3,12 @@ use Rattle.std.proofs.Common.{◌≡◌, ℕ, zero, suc, ◌+◌, ◌-◌, ◌<�
 use mathlib.Core.Path.{fun_ext}
 use Rattle.std.proofs.lemmas.Bool.{eqb-true}
 use Rattle.std.proofs.lemmas.List.{get_or-set_same, get_or-set_other, length-set, length-replicate}
-use Rattle.vs_net.specs.Network.{State, Write, Update, Kind, AnInput, TheClock, AnAssign, AComb, AClocked, kind}
+use Rattle.vs_net.specs.Network.{State, Write, Update, Delayed, Kind, AnInput, TheClock, AnAssign, AComb, AClocked, kind}
 use Rattle.vs_net.specs.Queue.{Mode, Slot, Fall, Rise, Queue, drive, slots_of, first_mode}
 use Rattle.vs_writes.specs.Held.{state_of}
 use Rattle.vs_events.specs.declared.beginning.Role.{Role}
 use Rattle.vs_events.specs.declared.beginning.Role.TheVariants as R
-use Rattle.vs_events.specs.Held.{Events, Dues, queue_of, after_activate, after_drive, dues_of, mode_at, mode_of}
+use Rattle.vs_events.specs.Held.{Events, Dues, Later, later_at, queue_of, after_activate, after_drive, dues_of, mode_at, mode_of}
 use Rattle.vs_events.specs.Beginning.{is_assign, is_block, first_events, role_of, role_at, Drive, after_drives, drives_of, AreDriven, BeginningIsStart, DrivingIsNext}
 
 -- ---- drives
@@ -26,12 +26,13 @@ pub record Stays (d e : Events) : Type 0 where
   pub applies : d.applies ≡ e.applies
   pub pending : d.pending ≡ e.pending
   pub active : d.active ≡ e.active
+  pub laters : d.laters ≡ e.laters
 
 stays : (e : Events) (ds : List Drive) → Stays (after_drives e ds) e
-stays e [] = record { values = refl; unstarted = refl; assigns = refl; evaluates = refl; runs = refl; applies = refl; pending = refl; active = refl }
+stays e [] = record { values = refl; unstarted = refl; assigns = refl; evaluates = refl; runs = refl; applies = refl; pending = refl; active = refl; laters = refl }
 stays e (d ∷ ds) =
     let s = stays (after_drive e d.process d.update) ds in
-    record { values = s.values; unstarted = s.unstarted; assigns = s.assigns; evaluates = s.evaluates; runs = s.runs; applies = s.applies; pending = s.pending; active = s.active }
+    record { values = s.values; unstarted = s.unstarted; assigns = s.assigns; evaluates = s.evaluates; runs = s.runs; applies = s.applies; pending = s.pending; active = s.active; laters = s.laters }
 
 one_driven : (ws : List (List Update)) (q p : ℕ) (u : Update) (us : List Update) (b : Bool) → (p == q) ≡ b → q < length ws → get_or (set ws q (get_or ws q [] ++ u ∷ [])) p [] ++ us ≡ get_or ws p [] ++ (if b then (u ∷ us) else us)
 one_driven ws q p u us true e h =
@@ -54,38 +55,42 @@ all_driven e (d ∷ ds) p h =
     let rest : AreDriven (length next.waiting) ds = subst (λ c. AreDriven c ds) (sym count) there.1 in
     all_driven next ds p rest ∙ one_driven e.waiting d.process p d.update (drives_of ds p) (p == d.process) refl there.0
 
-abbrev make : State → (ℕ → Mode) → (ℕ → Option (List Write)) → (ℕ → List Update) → (ℕ → List Update) → List Slot → Queue
-make now mode pending active waiting slots = record { now = now; mode = mode; pending = pending; active = active; waiting = waiting; slots = slots }
+abbrev make : State → (ℕ → Mode) → (ℕ → Option (List Write)) → (ℕ → List Update) → (ℕ → List Update) → ℕ → (ℕ → List Delayed) → List Slot → Queue
+make now mode pending active waiting time later slots = record { now = now; mode = mode; pending = pending; active = active; waiting = waiting; time = time; later = later; slots = slots }
 
-same_queue : (now now2 : State) (mode mode2 : ℕ → Mode) (pending pending2 : ℕ → Option (List Write)) (active active2 waiting waiting2 : ℕ → List Update) (slots : List Slot) → now ≡ now2 → mode ≡ mode2 → pending ≡ pending2 → active ≡ active2 → waiting ≡ waiting2
-    → make now mode pending active waiting slots ≡ make now2 mode2 pending2 active2 waiting2 slots
-same_queue now now2 mode mode2 pending pending2 active active2 waiting waiting2 slots a b c d e =
-    ap (λ x. make x mode pending active waiting slots) a ∙ ap (λ x. make now2 x pending active waiting slots) b ∙ ap (λ x. make now2 mode2 x active waiting slots) c ∙ ap (λ x. make now2 mode2 pending2 x waiting slots) d
-    ∙ ap (λ x. make now2 mode2 pending2 active2 x slots) e
+pub same_queue : (now now2 : State) (mode mode2 : ℕ → Mode) (pending pending2 : ℕ → Option (List Write)) (active active2 waiting waiting2 : ℕ → List Update) (time : ℕ) (later later2 : ℕ → List Delayed) (slots : List Slot)
+    → now ≡ now2 → mode ≡ mode2 → pending ≡ pending2 → active ≡ active2 → waiting ≡ waiting2 → later ≡ later2
+    → make now mode pending active waiting time later slots ≡ make now2 mode2 pending2 active2 waiting2 time later2 slots
+same_queue now now2 mode mode2 pending pending2 active active2 waiting waiting2 time later later2 slots a b c d e f =
+    ap (λ x. make x mode pending active waiting time later slots) a ∙ ap (λ x. make now2 x pending active waiting time later slots) b ∙ ap (λ x. make now2 mode2 x active waiting time later slots) c
+    ∙ ap (λ x. make now2 mode2 pending2 x waiting time later slots) d ∙ ap (λ x. make now2 mode2 pending2 active2 x time later slots) e ∙ ap (λ x. make now2 mode2 pending2 active2 waiting2 time x slots) f
 
-abbrev pending_in : List Bool → List (List Write) → ℕ → Option (List Write)
+abbrev pub pending_in : List Bool → List (List Write) → ℕ → Option (List Write)
 pending_in flags lists p = if get_or flags p false then Some (get_or lists p []) else None
 
 -- the queue with these updates waiting
-abbrev with_waiting : Events → List Slot → (ℕ → List Update) → Queue
-with_waiting e slots waiting = make (state_of e.values) (mode_at e.unstarted (dues_of e)) (pending_in e.applies e.pending) (λ p. get_or e.active p []) waiting slots
+abbrev with_waiting : Events → ℕ → List Slot → (ℕ → List Update) → Queue
+with_waiting e time slots waiting = make (state_of e.values) (mode_at e.unstarted (dues_of e)) (pending_in e.applies e.pending) (λ p. get_or e.active p []) waiting time (later_at time e.laters) slots
 
 -- the queue after what was driven: what waits is what waited with that
-driven_queue : (e : Events) (slots : List Slot) (ds : List Drive) → AreDriven (length e.waiting) ds → queue_of (after_drives e ds) slots ≡ with_waiting e slots (λ p. get_or e.waiting p [] ++ drives_of ds p)
-driven_queue e slots ds h =
+driven_queue : (e : Events) (time : ℕ) (slots : List Slot) (ds : List Drive) → AreDriven (length e.waiting) ds → queue_of (after_drives e ds) time slots ≡ with_waiting e time slots (λ p. get_or e.waiting p [] ++ drives_of ds p)
+driven_queue e time slots ds h =
     let s = stays e ds in
     let d = after_drives e ds in
     same_queue (state_of d.values) (state_of e.values) (mode_at d.unstarted (dues_of d)) (mode_at e.unstarted (dues_of e)) (pending_in d.applies d.pending) (pending_in e.applies e.pending) (λ p. get_or d.active p []) (λ p. get_or e.active p [])
-    (λ p. get_or d.waiting p []) (λ p. get_or e.waiting p [] ++ drives_of ds p) slots (ap state_of s.values)
+    (λ p. get_or d.waiting p []) (λ p. get_or e.waiting p [] ++ drives_of ds p) time (later_at time d.laters) (later_at time e.laters) slots (ap state_of s.values)
     (ap₂ (λ us (x : Dues). mode_at us x) s.unstarted (ap₂ (λ es rs. let x : Dues = record { evaluates = es; runs = rs } in x) s.evaluates s.runs))
-    (ap₂ pending_in s.applies s.pending) (ap (λ lists. λ (p : ℕ). get_or lists p []) s.active) (fun_ext (λ p. all_driven e ds p h))
+    (ap₂ pending_in s.applies s.pending) (ap (λ lists. λ (p : ℕ). get_or lists p []) s.active) (fun_ext (λ p. all_driven e ds p h)) (ap (later_at time) s.laters)
 
 -- ---- the laws
 
 pub driving_is_next : DrivingIsNext
-driving_is_next n e slot slots ds held none there drives =
+driving_is_next n e time slot slots ds held none nothing there drives =
     let driven = subst (λ c. AreDriven c ds) (sym held.waiting) there in
-    driven_queue e slots ds driven ∙ ap (with_waiting e slots) (fun_ext (λ p. ap (λ us. us ++ drives_of ds p) (none p) ∙ drives p))
+    driven_queue e 0 slots ds driven
+    ∙ ap (λ (ls : List Later). let q : Queue = record (with_waiting e 0 slots (λ p. get_or e.waiting p [] ++ drives_of ds p)) { later = later_at 0 ls } in q) nothing
+    ∙ ap (λ (ls : List Later). let q : Queue = record (with_waiting e 0 slots (λ p. get_or e.waiting p [] ++ drives_of ds p)) { later = later_at time ls } in q) (sym nothing)
+    ∙ ap (λ (w : ℕ → List Update). let q : Queue = record (with_waiting e 0 slots w) { later = later_at time e.laters } in q) (fun_ext (λ p. ap (λ us. us ++ drives_of ds p) (none p) ∙ drives p))
 
 none_at : {A : Type 0} (n p : ℕ) → get_or (replicate n (let xs : List A = [] in xs)) p [] ≡ []
 none_at zero p = refl
@@ -125,14 +130,15 @@ beginning_is_start n roles values v vs firsts ds kinds first_there first_drives 
     let first_driven : AreDriven (length e.waiting) firsts = subst (λ c. AreDriven c firsts) (sym none) first_there in
     let count : length a.waiting ≡ length roles = ap length s.active ∙ none_active in
     let driven : AreDriven (length a.waiting) ds = subst (λ c. AreDriven c ds) (sym count) there in
-    driven_queue a (Rise ∷ slots_of vs) ds driven
+    driven_queue a 0 (Rise ∷ slots_of vs) ds driven
     ∙ same_queue (state_of a.values) (state_of values) (mode_at a.unstarted (dues_of a)) (λ p. first_mode (kind (n.process p))) (pending_in a.applies a.pending) (λ p. None) (λ p. get_or a.active p []) n.initial
-    (λ p. get_or a.waiting p [] ++ drives_of ds p) (λ p. n.initial_updates p ++ drive (n.process p) (Fall v)) (Rise ∷ slots_of vs) (ap state_of s.values)
+    (λ p. get_or a.waiting p [] ++ drives_of ds p) (λ p. n.initial_updates p ++ drive (n.process p) (Fall v)) 0 (later_at 0 a.laters) (λ p. []) (Rise ∷ slots_of vs) (ap state_of s.values)
     (ap₂ (λ us (x : Dues). mode_at us x) s.unstarted (ap₂ (λ es rs. let x : Dues = record { evaluates = es; runs = rs } in x) s.evaluates s.runs)
     ∙ fun_ext (λ p. begins roles p (kind (n.process p)) (kinds p)))
     (ap₂ pending_in s.applies s.pending ∙ fun_ext (λ p. ap (λ b. if b then Some (get_or e.pending p []) else None) (no_flag (length roles) p)))
     (fun_ext (λ p. all_driven e firsts p first_driven ∙ ap (λ us. us ++ drives_of firsts p) (none_at (length roles) p) ∙ first_drives p))
     (fun_ext (λ p. ap (λ us. us ++ drives_of ds p) (ap (λ (lists : List (List Update)). get_or lists p []) s.active ∙ none_at (length roles) p) ∙ drives p))
+    (ap (later_at 0) s.laters)
 
 -- ---- flags
 

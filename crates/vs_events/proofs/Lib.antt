@@ -3,3 +3,4 @@ pub mod Stepping
 pub mod Ranks
 pub mod BeginningSteps
 pub mod Listening
+pub mod Timing

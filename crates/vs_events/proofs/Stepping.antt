@@ -1,18 +1,20 @@
 -- What the steps of one process do to the lists is what they do to the queue.
-use Rattle.std.proofs.Common.{◌≡◌, ℕ, zero, suc, ◌+◌, ◌≤◌, ◌<◌, Bool, true, false, not, ◌&&◌, ◌||◌, ◌==◌, if◌then◌else◌, List, [], ◌∷◌, ◌++◌, set, drop, length, get_or, refl, sym, ap, ap₂, ◌∙◌, arith, Some, None}
+use Rattle.std.proofs.Common.{◌≡◌, ◌≢◌, ℕ, zero, suc, ◌+◌, ◌≤◌, ◌<◌, Bool, true, false, not, ◌&&◌, ◌||◌, ◌==◌, if◌then◌else◌, List, [], ◌∷◌, ◌++◌, set, drop, length, get_or, refl, sym, ap, ap₂, ◌∙◌, arith, append-nil, append_assoc, Some, None}
 use Rattle.std.specs.Prelude.{Option, unwrap_or}
 use mathlib.Core.Path.{fun_ext}
-use Rattle.std.proofs.lemmas.Bool.{eqb-true}
+use Rattle.std.specs.List.{list_all}
+use Rattle.std.proofs.lemmas.Bool.{eqb-true, le-leb}
+use Rattle.std.proofs.lemmas.List.Folds.{list_all-append}
 use Rattle.std.proofs.lemmas.List.{get_or-set_same, get_or-set_other, length-set}
 use Rattle.vs_four.specs.Tables.{same}
-use Rattle.vs_net.specs.Network.{State, Write, Update, put, made, updates}
+use Rattle.vs_net.specs.Network.{State, Write, Update, Delayed, at_delay, but_delay, undelayed, postponed, put, made, delayed}
 use Rattle.vs_net.specs.LevelRun.{is_empty}
 use Rattle.vs_net.specs.Queue.{Mode, Waiting, Slot, Queue, after, to_write, is_held, took, changes}
 use Rattle.vs_ranked.specs.Members.{has_member}
 use Rattle.vs_writes.specs.Held.{state_of}
 use Rattle.vs_writes.proofs.Writing.{drop_at, drop_end}
 use Rattle.vs_events.specs.declared.listener.Listener.{Listener}
-use Rattle.vs_events.specs.Held.{Events, Dues, mode_of, mode_at, dues_of, pending_at, queue_of, IsHeld, all_awake, written, all_written, after_evaluate, after_take}
+use Rattle.vs_events.specs.Held.{Events, Dues, is_theirs, mode_of, mode_at, dues_of, pending_at, queue_of, IsHeld, Later, later_at, laters_of, prompt, all_awake, written, all_written, after_evaluate, after_rest, after_take}
 use Rattle.vs_events.specs.Laws.{StartIsStep, EvaluateIsStep, ApplyIsStep, RunIsStep, TakeIsStep, ActivateIsStep}
 use Rattle.vs_events.proofs.Woken.{writes_are_changes, not_same, written_held}
 
@@ -23,7 +25,7 @@ has_put flags p r v false h e = get_or-set_other flags p r v false (not_same r p
 -- ---- start
 
 pub start_is_step : StartIsStep
-start_is_step n e slots p held inside idle = ap (λ (m : ℕ → Mode). let x : Queue = record (queue_of e slots) { mode = m } in x) (fun_ext (λ r. at r (r == p) refl))
+start_is_step n e time slots p held inside idle = ap (λ (m : ℕ → Mode). let x : Queue = record (queue_of e time slots) { mode = m } in x) (fun_ext (λ r. at r (r == p) refl))
   where
     at : (r : ℕ) (c : Bool) → (r == p) ≡ c → mode_at (set e.unstarted p false) (dues_of e) r ≡ (if c then Waiting else mode_at e.unstarted (dues_of e) r)
     at r true k =
@@ -54,16 +56,16 @@ module _ (e : Events) (p : ℕ) (held : IsHeld e) (inside : p < length e.assigns
       ap (λ b. if b then Some (get_or (set e.pending p []) r []) else None) (has_put e.applies p r false false (omega (arith, inside, held.applies)) k)
       ∙ ap (λ us. if has_member e.applies r then Some us else None) (get_or-set_other e.pending p r [] [] (not_same r p k))
 
-  evaluate_to : (slots : List Slot) (o : Option (List Write)) → queue_of (after_evaluate e p o) slots ≡ (let x : Queue = record (queue_of e slots) { mode = put (mode_at e.unstarted (dues_of e)) p Waiting; pending = put (pending_at e) p o } in x)
-  evaluate_to slots (Some ws) =
-      ap₂ (λ (m : ℕ → Mode) (o : ℕ → Option (List Write)). let x : Queue = record (queue_of e slots) { mode = m; pending = o } in x) (fun_ext (λ r. evaluated_mode r (r == p) refl)) (fun_ext (λ r. some_pending ws r (r == p) refl))
-  evaluate_to slots None =
-      ap₂ (λ (m : ℕ → Mode) (o : ℕ → Option (List Write)). let x : Queue = record (queue_of e slots) { mode = m; pending = o } in x) (fun_ext (λ r. evaluated_mode r (r == p) refl)) (fun_ext (λ r. no_pending r (r == p) refl))
+  evaluate_to : (time : ℕ) (slots : List Slot) (o : Option (List Write)) → queue_of (after_evaluate e p o) time slots ≡ (let x : Queue = record (queue_of e time slots) { mode = put (mode_at e.unstarted (dues_of e)) p Waiting; pending = put (pending_at e) p o } in x)
+  evaluate_to time slots (Some ws) =
+      ap₂ (λ (m : ℕ → Mode) (o : ℕ → Option (List Write)). let x : Queue = record (queue_of e time slots) { mode = m; pending = o } in x) (fun_ext (λ r. evaluated_mode r (r == p) refl)) (fun_ext (λ r. some_pending ws r (r == p) refl))
+  evaluate_to time slots None =
+      ap₂ (λ (m : ℕ → Mode) (o : ℕ → Option (List Write)). let x : Queue = record (queue_of e time slots) { mode = m; pending = o } in x) (fun_ext (λ r. evaluated_mode r (r == p) refl)) (fun_ext (λ r. no_pending r (r == p) refl))
 
 pub evaluate_is_step : EvaluateIsStep
-evaluate_is_step n e slots p ws held inside started resting is =
-    evaluate_to e p held inside started resting slots (to_write (state_of e.values) ws)
-    ∙ ap (λ us. let x : Queue = record (queue_of e slots) { mode = put (mode_at e.unstarted (dues_of e)) p Waiting; pending = put (pending_at e) p (to_write (state_of e.values) us) } in x) (sym is)
+evaluate_is_step n e time slots p ws held inside started resting is =
+    evaluate_to e p held inside started resting time slots (to_write (state_of e.values) ws)
+    ∙ ap (λ us. let x : Queue = record (queue_of e time slots) { mode = put (mode_at e.unstarted (dues_of e)) p Waiting; pending = put (pending_at e) p (to_write (state_of e.values) us) } in x) (sym is)
 
 -- ---- apply
 
@@ -88,18 +90,19 @@ module _ (e : Events) (p : ℕ) (held : IsHeld e) (inside : p < length e.assigns
     active = held.active;
     waiting = held.waiting;
     lates = held.lates;
+    laters = held.laters;
   }
 
 pub apply_is_step : ApplyIsStep
-apply_is_step n table wired e slots p held inside pends within below =
+apply_is_step n table wired e time slots p held inside pends within below =
     let left : Events = record e { applies = set e.applies p false; pending = set e.pending p [] } in
     let some : unwrap_or (pending_at e p) [] ≡ get_or e.pending p [] = ap (λ b. unwrap_or (if b then Some (get_or e.pending p []) else None) []) pends in
-    let bare : queue_of left slots ≡ (let x : Queue = record (queue_of e slots) { pending = put (pending_at e) p None } in x) =
-    ap (λ (o : ℕ → Option (List Write)). let x : Queue = record (queue_of e slots) { pending = o } in x) (fun_ext (λ r. none_left e p held inside r (r == p) refl))
+    let bare : queue_of left time slots ≡ (let x : Queue = record (queue_of e time slots) { pending = put (pending_at e) p None } in x) =
+    ap (λ (o : ℕ → Option (List Write)). let x : Queue = record (queue_of e time slots) { pending = o } in x) (fun_ext (λ r. none_left e p held inside r (r == p) refl))
     in
-    writes_are_changes n table wired (get_or e.pending p []) left slots (emptied_held e p held inside) within below
+    writes_are_changes n table wired (get_or e.pending p []) left time slots (emptied_held e p held inside) within below
     ∙ ap (λ q. changes n q (get_or e.pending p [])) bare
-    ∙ ap (changes n (let x : Queue = record (queue_of e slots) { pending = put (pending_at e) p None } in x)) (sym some)
+    ∙ ap (changes n (let x : Queue = record (queue_of e time slots) { pending = put (pending_at e) p None } in x)) (sym some)
 
 -- ---- lists
 
@@ -160,6 +163,71 @@ all_written_started : (ws : List Write) (e : Events) (table : List (List Listene
 all_written_started [] e table = refl
 all_written_started (w ∷ ws) e table = all_written_started ws (written e (get_or table w.bit []) w) table ∙ written_started e (get_or table w.bit []) w
 
+-- one update more, with a delay or without one
+prompt_more : (us : List Delayed) (d : Delayed) (b : Bool) → (d.delay == 0) ≡ b → prompt (us ++ d ∷ []) ≡ prompt us ++ (if b then d.update ∷ [] else [])
+prompt_more [] d true e = ap (λ (c : Bool). undelayed (if c then d ∷ [] else [])) e
+prompt_more [] d false e = ap (λ (c : Bool). undelayed (if c then d ∷ [] else [])) e
+prompt_more (u ∷ us) d b e = by (prompt_more us d b e) (u.delay == 0)
+  where
+    by : prompt (us ++ d ∷ []) ≡ prompt us ++ (if b then d.update ∷ [] else []) → (c : Bool) → undelayed (if c then u ∷ at_delay 0 (us ++ d ∷ []) else at_delay 0 (us ++ d ∷ [])) ≡ undelayed (if c then u ∷ at_delay 0 us else at_delay 0 us) ++ (if b then d.update ∷ [] else [])
+    by rec true = ap (λ (vs : List Update). u.update ∷ vs) rec
+    by rec false = rec
+
+late_more : (p : ℕ) (us : List Delayed) (d : Delayed) (b : Bool) → (d.delay == 0) ≡ b → laters_of p (but_delay 0 (us ++ d ∷ [])) ≡ laters_of p (but_delay 0 us) ++ (if b then [] else record { process = p; left = d.delay; update = d.update } ∷ [])
+late_more p [] d true e = ap (λ (c : Bool). laters_of p (if c then [] else d ∷ [])) e
+late_more p [] d false e = ap (λ (c : Bool). laters_of p (if c then [] else d ∷ [])) e
+late_more p (u ∷ us) d b e = by (late_more p us d b e) (u.delay == 0)
+  where
+    more : List Later
+    more = if b then [] else record { process = p; left = d.delay; update = d.update } ∷ []
+
+    by : laters_of p (but_delay 0 (us ++ d ∷ [])) ≡ laters_of p (but_delay 0 us) ++ more → (c : Bool) → laters_of p (if c then but_delay 0 (us ++ d ∷ []) else u ∷ but_delay 0 (us ++ d ∷ [])) ≡ laters_of p (if c then but_delay 0 us else u ∷ but_delay 0 us) ++ more
+    by rec true = rec
+    by rec false = ap (λ (ls : List Later). record { process = p; left = u.delay; update = u.update } ∷ ls) rec
+
+not_zero : (n : ℕ) → n ≢ 0 → (n == 0) ≡ false
+not_zero n h = by (n == 0) refl
+  where
+    by : (c : Bool) → (n == 0) ≡ c → c ≡ false
+    by true e = absurd (h (eqb-true n 0 e))
+    by false e = refl
+
+-- where it has none, and where it has one
+pub now_more : (us all : List Update) (ds : List Delayed) (d : Delayed) → d.delay ≡ 0 → us ≡ all ++ prompt ds → us ++ d.update ∷ [] ≡ all ++ prompt (ds ++ d ∷ [])
+now_more us all ds d e is = ap (λ vs. vs ++ d.update ∷ []) is ∙ append_assoc all (prompt ds) (d.update ∷ []) ∙ ap (λ vs. all ++ vs) (sym (prompt_more ds d true (ap (λ k. k == 0) e)))
+
+pub now_same : (us all : List Update) (ds : List Delayed) (d : Delayed) → d.delay ≢ 0 → us ≡ all ++ prompt ds → us ≡ all ++ prompt (ds ++ d ∷ [])
+now_same us all ds d e is = is ∙ ap (λ vs. all ++ vs) (sym (prompt_more ds d false (not_zero d.delay e) ∙ append-nil (prompt ds)))
+
+pub late_same : (ls all : List Later) (p : ℕ) (ds : List Delayed) (d : Delayed) → d.delay ≡ 0 → ls ≡ all ++ laters_of p (but_delay 0 ds) → ls ≡ all ++ laters_of p (but_delay 0 (ds ++ d ∷ []))
+late_same ls all p ds d e is = is ∙ ap (λ ks. all ++ ks) (sym (late_more p ds d true (ap (λ k. k == 0) e) ∙ append-nil (laters_of p (but_delay 0 ds))))
+
+pub late_one : (ls all : List Later) (p : ℕ) (ds : List Delayed) (d : Delayed) → d.delay ≢ 0 → ls ≡ all ++ laters_of p (but_delay 0 ds) → ls ++ record { process = p; left = d.delay; update = d.update } ∷ [] ≡ all ++ laters_of p (but_delay 0 (ds ++ d ∷ []))
+late_one ls all p ds d e is =
+    ap (λ ks. ks ++ record { process = p; left = d.delay; update = d.update } ∷ []) is ∙ append_assoc all (laters_of p (but_delay 0 ds)) (record { process = p; left = d.delay; update = d.update } ∷ [])
+    ∙ ap (λ ks. all ++ ks) (sym (late_more p ds d false (not_zero d.delay e)))
+
+pub theirs_more : (count : ℕ) (ls : List Later) (l : Later) → l.process < count → list_all (is_theirs count) ls ≡ true → list_all (is_theirs count) (ls ++ l ∷ []) ≡ true
+theirs_more count ls l below all =
+    list_all-append (is_theirs count) ls (l ∷ []) ∙ ap₂ ◌&&◌ all (ap (λ b. b && true) (le-leb (suc l.process) count below))
+
+-- updates of a process behind those that come later
+more_later : (time : ℕ) (ls : List Later) (p : ℕ) (us : List Delayed) (r : ℕ) (c : Bool) → (r == p) ≡ c → later_at time (ls ++ laters_of p us) r ≡ later_at time ls r ++ (if c then postponed time us else [])
+more_later time [] p [] r true k = refl
+more_later time [] p [] r false k = refl
+more_later time [] p (u ∷ us) r true k =
+    ap (λ (b : Bool). if b then (record { delay = time + u.delay; update = u.update } ∷ later_at time (laters_of p us) r) else later_at time (laters_of p us) r) k
+    ∙ ap (λ (ds : List Delayed). record { delay = time + u.delay; update = u.update } ∷ ds) (more_later time [] p us r true k)
+more_later time [] p (u ∷ us) r false k =
+    ap (λ (b : Bool). if b then (record { delay = time + u.delay; update = u.update } ∷ later_at time (laters_of p us) r) else later_at time (laters_of p us) r) k ∙ more_later time [] p us r false k
+more_later time (l ∷ ls) p us r c k = by (more_later time ls p us r c k) (r == l.process)
+  where
+    by : later_at time (ls ++ laters_of p us) r ≡ later_at time ls r ++ (if c then postponed time us else [])
+        → (b : Bool) → (if b then (record { delay = time + l.left; update = l.update } ∷ later_at time (ls ++ laters_of p us) r) else later_at time (ls ++ laters_of p us) r)
+        ≡ (if b then (record { delay = time + l.left; update = l.update } ∷ later_at time ls r) else later_at time ls r) ++ (if c then postponed time us else [])
+    by rec true = ap (λ (ds : List Delayed). record { delay = time + l.left; update = l.update } ∷ ds) rec
+    by rec false = rec
+
 module _ (d : Events) (p : ℕ) (held : IsHeld d) (inside : p < length d.assigns) (started : has_member d.unstarted p ≡ false) where
   ran_mode : (r : ℕ) (c : Bool) → (r == p) ≡ c → (let x : Dues = record { evaluates = set d.evaluates p false; runs = set d.runs p false } in mode_at d.unstarted x r) ≡ (if c then Waiting else mode_at d.unstarted (dues_of d) r)
   ran_mode r true k =
@@ -172,26 +240,46 @@ module _ (d : Events) (p : ℕ) (held : IsHeld d) (inside : p < length d.assigns
   ran_waiting us r true k = ap (λ q. get_or (set d.waiting p us) q []) (eqb-true r p k) ∙ get_or-set_same d.waiting p us [] (omega (arith, inside, held.waiting))
   ran_waiting us r false k = get_or-set_other d.waiting p r us [] (not_same r p k)
 
-  rested : (slots : List Slot) (us : List Update) → let all : List Update = get_or d.waiting p [] ++ us in
-      queue_of (record d { evaluates = set d.evaluates p false; runs = set d.runs p false; waiting = set d.waiting p all; lates = if is_empty us then d.lates else (set d.lates p true) }) slots ≡ (let x : Queue = record (queue_of d slots) { mode = put (mode_at d.unstarted (dues_of d)) p Waiting; waiting = put (λ r. get_or d.waiting r []) p all } in x)
-  rested slots us =
-      ap₂ (λ (m : ℕ → Mode) (w : ℕ → List Update). let x : Queue = record (queue_of d slots) { mode = m; waiting = w } in x) (fun_ext (λ r. ran_mode r (r == p) refl)) (fun_ext (λ r. ran_waiting (get_or d.waiting p [] ++ us) r (r == p) refl))
+  ran_later : (time : ℕ) (us : List Delayed) (r : ℕ) (c : Bool) → (r == p) ≡ c → later_at time (d.laters ++ laters_of p us) r ≡ (if c then later_at time d.laters p ++ postponed time us else later_at time d.laters r)
+  ran_later time us r true k = more_later time d.laters p us r true k ∙ ap (λ q. later_at time d.laters q ++ postponed time us) (eqb-true r p k)
+  ran_later time us r false k = more_later time d.laters p us r false k ∙ append-nil (later_at time d.laters r)
+
+  rested : (time : ℕ) (slots : List Slot) (us : List Delayed)
+      → queue_of (after_rest d p us) time slots
+      ≡ (let x : Queue = record (queue_of d time slots) {
+        mode = put (mode_at d.unstarted (dues_of d)) p Waiting;
+        waiting = put (λ r. get_or d.waiting r []) p (get_or d.waiting p [] ++ prompt us);
+        later = put (later_at time d.laters) p (later_at time d.laters p ++ postponed time (but_delay 0 us));
+      } in x)
+  rested time slots us =
+      ap₂ (λ (m : ℕ → Mode) (w : ℕ → List Update). let x : Queue = record (queue_of d time slots) { mode = m; waiting = w; later = later_at time (d.laters ++ laters_of p (but_delay 0 us)) } in x)
+      (fun_ext (λ r. ran_mode r (r == p) refl)) (fun_ext (λ r. ran_waiting (get_or d.waiting p [] ++ prompt us) r (r == p) refl))
+      ∙ ap (λ (l : ℕ → List Delayed). let x : Queue = record (queue_of d time slots) {
+        mode = put (mode_at d.unstarted (dues_of d)) p Waiting;
+        waiting = put (λ r. get_or d.waiting r []) p (get_or d.waiting p [] ++ prompt us);
+        later = l;
+      } in x) (fun_ext (λ r. ran_later time (but_delay 0 us) r (r == p) refl))
 
 pub run_is_step : RunIsStep
-run_is_step n table wired e slots p held inside started within below =
+run_is_step n table wired e time slots p held inside started within below =
     let ws = made (n.process p) (state_of e.values) in
-    let us = updates (n.process p) (state_of e.values) in
+    let us = delayed (n.process p) (state_of e.values) in
     let d = all_written e table ws in
     let kept = all_written_held ws e table held in
     let there : p < length d.assigns = omega (arith, inside, kept.1) in
     let up : has_member d.unstarted p ≡ false = ap (λ fs. has_member fs p) (all_written_started ws e table) ∙ started in
-    rested d p kept.0 there up slots us
-    ∙ ap (λ (q : Queue). let x : Queue = record q { mode = put q.mode p Waiting; waiting = put q.waiting p (q.waiting p ++ us) } in x) (writes_are_changes n table wired ws e slots held within below)
+    rested d p kept.0 there up time slots us
+    ∙ ap (λ (q : Queue). let x : Queue = record q { mode = put q.mode p Waiting; waiting = put q.waiting p (q.waiting p ++ prompt us); later = put q.later p (q.later p ++ postponed time (but_delay 0 us)) } in x) (writes_are_changes n table wired ws e time slots held within below)
+    ∙ ap (λ t. let x : Queue = record (changes n (queue_of e time slots) ws) {
+      mode = put (changes n (queue_of e time slots) ws).mode p Waiting;
+      waiting = put (changes n (queue_of e time slots) ws).waiting p ((changes n (queue_of e time slots) ws).waiting p ++ prompt us);
+      later = put (changes n (queue_of e time slots) ws).later p ((changes n (queue_of e time slots) ws).later p ++ postponed t (but_delay 0 us));
+    } in x) (ap (λ (q : Queue). q.time) (writes_are_changes n table wired ws e time slots held within below))
 
 -- ---- take
 
 pub take_is_step : TakeIsStep
-take_is_step n table wired e slots p u us held inside is within below =
+take_is_step n table wired e time slots p u us held inside is within below =
     let left : Events = record e { active = set e.active p us; takes = set e.takes p (not (is_empty us)) } in
     let kept : IsHeld left =
     record {
@@ -204,15 +292,16 @@ take_is_step n table wired e slots p u us held inside is within below =
       active = length-set e.active p us ∙ held.active;
       waiting = held.waiting;
       lates = held.lates;
+      laters = held.laters;
     }
     in
-    let bare : queue_of left slots ≡ (let x : Queue = record (queue_of e slots) { active = put (λ r. get_or e.active r []) p us } in x) =
-    ap (λ (a : ℕ → List Update). let x : Queue = record (queue_of e slots) { active = a } in x) (fun_ext (λ r. others r (r == p) refl))
+    let bare : queue_of left time slots ≡ (let x : Queue = record (queue_of e time slots) { active = put (λ r. get_or e.active r []) p us } in x) =
+    ap (λ (a : ℕ → List Update). let x : Queue = record (queue_of e time slots) { active = a } in x) (fun_ext (λ r. others r (r == p) refl))
     in
-    ap (λ xs. queue_of (after_take e table p xs) slots) is
-    ∙ writes_are_changes n table wired u left slots kept within below
+    ap (λ xs. queue_of (after_take e table p xs) time slots) is
+    ∙ writes_are_changes n table wired u left time slots kept within below
     ∙ ap (λ q. changes n q u) bare
-    ∙ ap (took n (queue_of e slots) p) (sym is)
+    ∙ ap (took n (queue_of e time slots) p) (sym is)
   where
     others : (r : ℕ) (c : Bool) → (r == p) ≡ c → get_or (set e.active p us) r [] ≡ (if c then us else get_or e.active r [])
     others r true k = ap (λ q. get_or (set e.active p us) q []) (eqb-true r p k) ∙ get_or-set_same e.active p us [] (omega (arith, inside, held.active))
@@ -225,4 +314,4 @@ all_written_assigns (w ∷ ws) e table = all_written_assigns ws (written e (get_
 -- ---- activate
 
 pub activate_is_step : ActivateIsStep
-activate_is_step n e slots none = ap (λ (w : ℕ → List Update). let x : Queue = record (queue_of e slots) { active = λ p. get_or e.waiting p []; waiting = w } in x) (fun_ext (λ p. none p))
+activate_is_step n e time slots none = ap (λ (w : ℕ → List Update). let x : Queue = record (queue_of e time slots) { active = λ p. get_or e.waiting p []; waiting = w } in x) (fun_ext (λ p. none p))

@@ -126,9 +126,9 @@ module _ (unstarted assigns : List Bool) where
 
 -- ---- one write
 
-one_write : (n : Network) (table : List (List Listener)) → IsWired n table → (w : Write) (e : Events) (slots : List Slot) → IsHeld e → w.bit < length e.values → AreBelow (length e.assigns) (get_or table w.bit []) → queue_of (written e (get_or table w.bit []) w) slots ≡ change n (queue_of e slots) w
+one_write : (n : Network) (table : List (List Listener)) → IsWired n table → (w : Write) (e : Events) (time : ℕ) (slots : List Slot) → IsHeld e → w.bit < length e.values → AreBelow (length e.assigns) (get_or table w.bit []) → queue_of (written e (get_or table w.bit []) w) time slots ≡ change n (queue_of e time slots) w
 unfolding change
-one_write n table wired w e slots held inside below = go (same (state_of e.values w.bit) w.value)
+one_write n table wired w e time slots held inside below = go (same (state_of e.values w.bit) w.value)
   where
     ls : List Listener
     ls = get_or table w.bit []
@@ -143,15 +143,15 @@ one_write n table wired w e slots held inside below = go (same (state_of e.value
     changed = record e { values = set e.values w.bit w.value; evaluates = d.evaluates; runs = d.runs }
 
     other : Queue
-    other = record (queue_of e slots) { now = Rattle.vs_net.specs.Network.put (state_of e.values) w.bit w.value; mode = λ p. woken (mode_at e.unstarted (dues_of e) p) (senses (n.process p) old w) }
+    other = record (queue_of e time slots) { now = Rattle.vs_net.specs.Network.put (state_of e.values) w.bit w.value; mode = λ p. woken (mode_at e.unstarted (dues_of e) p) (senses (n.process p) old w) }
 
     modes : (p : ℕ) → mode_at e.unstarted d p ≡ woken (mode_at e.unstarted (dues_of e) p) (senses (n.process p) old w)
     modes p = mode_all e.unstarted e.assigns ls (dues_of e) old w.value p (length e.assigns) held.evaluates held.runs below ∙ ap (woken (mode_at e.unstarted (dues_of e) p)) (sym (wired.exactly p old w))
 
-    is : queue_of changed slots ≡ other
-    is = ap₂ (λ (s : State) (m : ℕ → Mode). let x : Queue = record (queue_of e slots) { now = s; mode = m } in x) (state_set e.values w.bit w.value inside) (fun_ext modes)
+    is : queue_of changed time slots ≡ other
+    is = ap₂ (λ (s : State) (m : ℕ → Mode). let x : Queue = record (queue_of e time slots) { now = s; mode = m } in x) (state_set e.values w.bit w.value inside) (fun_ext modes)
 
-    go : (b : Bool) → queue_of (if b then e else changed) slots ≡ (if b then queue_of e slots else other)
+    go : (b : Bool) → queue_of (if b then e else changed) time slots ≡ (if b then queue_of e time slots else other)
     go true = refl
     go false = is
 
@@ -180,6 +180,7 @@ written_held e ls w held = go (same (state_of e.values w.bit) w.value)
         active = held.active;
         waiting = held.waiting;
         lates = held.lates;
+        laters = held.laters;
       },
       length-set e.values w.bit w.value,
       refl,
@@ -197,10 +198,10 @@ or_left false b h = cc
 
 pub writes_are_changes : WritesAreChanges
 unfolding changes is_written
-writes_are_changes n table wired [] e slots held inside below = refl
-writes_are_changes n table wired (w ∷ ws) e slots held inside below =
+writes_are_changes n table wired [] e time slots held inside below = refl
+writes_are_changes n table wired (w ∷ ws) e time slots held inside below =
     let here : w.bit < length e.values = inside w.bit (or_left (w.bit == w.bit) (is_written ws w.bit) (eq_same w.bit w.bit refl)) in
     let next = written e (get_or table w.bit []) w in
     let kept = written_held e (get_or table w.bit []) w held in
-    writes_are_changes n table wired ws next slots kept.0 (λ b h. let r = inside b (or_right (b == w.bit) (is_written ws b) h) in omega (arith, r, kept.1)) (λ b. subst (λ m. AreBelow m (get_or table b [])) (sym kept.2) (below b))
-    ∙ ap (λ q. changes n q ws) (one_write n table wired w e slots held here (below w.bit))
+    writes_are_changes n table wired ws next time slots kept.0 (λ b h. let r = inside b (or_right (b == w.bit) (is_written ws b) h) in omega (arith, r, kept.1)) (λ b. subst (λ m. AreBelow m (get_or table b [])) (sym kept.2) (below b))
+    ∙ ap (λ q. changes n q ws) (one_write n table wired w e time slots held here (below w.bit))

@@ -32,6 +32,7 @@ first_events roles values =
       active = replicate (length roles) [];
       waiting = replicate (length roles) [];
       lates = none;
+      laters = [];
     }
 
 -- the role of a kind, and that of a number, which past the last one is an input
@@ -72,9 +73,9 @@ abbrev pub BeginningIsStart : Type 0
 BeginningIsStart = (n : Network) (roles : List Role) (values : List Bit4) (v : State) (vs : List State) (firsts ds : List Drive) → ((p : ℕ) → role_at roles p ≡ role_of (kind (n.process p)))
     → AreDriven (length roles) firsts → ((p : ℕ) → drives_of firsts p ≡ n.initial p)
     → AreDriven (length roles) ds → ((p : ℕ) → drives_of ds p ≡ n.initial_updates p ++ drive (n.process p) (Fall v))
-    → queue_of (begun (first_events roles values) firsts ds) (Rise ∷ slots_of vs) ≡ start n (state_of values) v vs
+    → queue_of (begun (first_events roles values) firsts ds) 0 (Rise ∷ slots_of vs) ≡ start n (state_of values) v vs
 
--- and where nothing waits, a slot begins with its updates
+-- and where nothing waits and nothing comes later, a slot begins with its updates
 abbrev pub DrivingIsNext : Type 0
-DrivingIsNext = (n : Network) (e : Events) (slot : Slot) (slots : List Slot) (ds : List Drive) → IsHeld e → ((p : ℕ) → slice_index_or e.waiting p [] ≡ []) → AreDriven (length e.assigns) ds → ((p : ℕ) → drives_of ds p ≡ drive (n.process p) slot)
-    → queue_of (after_drives e ds) slots ≡ after n (queue_of e (slot ∷ slots)) Next
+DrivingIsNext = (n : Network) (e : Events) (time : ℕ) (slot : Slot) (slots : List Slot) (ds : List Drive) → IsHeld e → ((p : ℕ) → slice_index_or e.waiting p [] ≡ []) → e.laters ≡ [] → AreDriven (length e.assigns) ds → ((p : ℕ) → drives_of ds p ≡ drive (n.process p) slot)
+    → queue_of (after_drives e ds) 0 slots ≡ after n (queue_of e time (slot ∷ slots)) Next

@@ -1,8 +1,9 @@
 -- The state of a queue as lists, and what its steps make of it.
-use Rattle.std.specs.Prelude.{◌≡◌, ℕ, Bool, true, false, ◌&&◌, ◌||◌, not, List, [], ◌∷◌, ◌++◌, length, slice_set, slice_index_or, if◌then◌else◌, Option, Some, None}
+use Rattle.std.specs.Prelude.{◌≡◌, ℕ, ◌+◌, ◌==◌, nat_lt, Bool, true, false, ◌&&◌, ◌||◌, not, List, [], ◌∷◌, ◌++◌, length, slice_set, slice_index_or, if◌then◌else◌, Option, Some, None}
 use Rattle.vs_four.specs.declared.Bit4.{Bit4}
 use Rattle.vs_four.specs.Tables.{same}
-use Rattle.vs_net.specs.Network.{Write, Update}
+use Rattle.std.specs.List.{list_all}
+use Rattle.vs_net.specs.Network.{Write, Update, Delayed, at_delay, but_delay, undelayed}
 use Rattle.vs_net.specs.Queue.{Mode, Unstarted, Waiting, Due, Slot, Queue}
 use Rattle.vs_net.specs.LevelRun.{is_empty}
 use Rattle.vs_ranked.specs.Members.{has_member}
@@ -10,7 +11,13 @@ use Rattle.vs_writes.specs.Held.{state_of}
 use Rattle.vs_events.specs.declared.listener.Listener.{Listener}
 use Rattle.vs_events.specs.Hearing.{hears}
 
--- by the number of a process; of the flags those of the blocks that are unstarted, of the processes that are assigns, of the assigns and of the blocks that are due, of the assigns that have something pending, of the writers that have an active update, and of those that have a waiting one
+-- an update of a process that comes so many units of time from now
+pub record Later : Type 0 where
+  pub process : ℕ
+  pub left : ℕ
+  pub update : Update
+
+-- by the number of a process; of the flags those of the blocks that are unstarted, of the processes that are assigns, of the assigns and of the blocks that are due, of the assigns that have something pending, of the writers that have an active update, and of those that have a waiting one; and the updates of all that come later, in the order in which they were made
 pub record Events : Type 0 where
   pub values : List Bit4
   pub unstarted : List Bool
@@ -23,6 +30,7 @@ pub record Events : Type 0 where
   pub active : List (List Update)
   pub waiting : List (List Update)
   pub lates : List Bool
+  pub laters : List Later
 
 -- the assigns and the blocks that are due
 pub record Dues : Type 0 where
@@ -43,14 +51,21 @@ dues_of e = record { evaluates = e.evaluates; runs = e.runs }
 abbrev pub pending_at : Events → ℕ → Option (List Write)
 pending_at e p = if has_member e.applies p then Some (slice_index_or e.pending p []) else None
 
--- the queue that this is, with the slots to come
-abbrev pub queue_of : Events → List Slot → Queue
-queue_of e slots = record {
+-- those of these updates that are the process's, each with its time
+abbrev pub later_at : ℕ → List Later → ℕ → List Delayed
+later_at time [] p = []
+later_at time (l ∷ ls) p = if p == l.process then (record { delay = time + l.left; update = l.update } ∷ later_at time ls p) else later_at time ls p
+
+-- the queue that this is at this time, with the slots to come
+abbrev pub queue_of : Events → ℕ → List Slot → Queue
+queue_of e time slots = record {
   now = state_of e.values;
   mode = mode_at e.unstarted (dues_of e);
   pending = pending_at e;
   active = λ p. slice_index_or e.active p [];
   waiting = λ p. slice_index_or e.waiting p [];
+  time = time;
+  later = later_at time e.laters;
   slots = slots;
 }
 
@@ -96,11 +111,29 @@ after_evaluate e p None = record e { evaluates = slice_set e.evaluates p false; 
 abbrev pub after_apply : Events → List (List Listener) → ℕ → Events
 after_apply e table p = all_written (record e { applies = slice_set e.applies p false; pending = slice_set e.pending p [] }) table (slice_index_or e.pending p [])
 
--- a block has run: its writes are made, it waits again, and its updates go behind those that it has waiting
-abbrev pub after_run : Events → List (List Listener) → ℕ → List Write → List Update → Events
-after_run e table p ws us =
-    let d = all_written e table ws in
-    record d { evaluates = slice_set d.evaluates p false; runs = slice_set d.runs p false; waiting = slice_set d.waiting p (slice_index_or d.waiting p [] ++ us); lates = if is_empty us then d.lates else (slice_set d.lates p true) }
+-- the updates without a delay
+abbrev pub prompt : List Delayed → List Update
+prompt us = undelayed (at_delay 0 us)
+
+-- these updates of a process come later
+abbrev pub laters_of : ℕ → List Delayed → List Later
+laters_of p [] = []
+laters_of p (d ∷ ds) = record { process = p; left = d.delay; update = d.update } ∷ laters_of p ds
+
+-- a block rests: it waits again, its updates without a delay go behind those that it has waiting, and the others come later
+abbrev pub after_rest : Events → ℕ → List Delayed → Events
+after_rest d p us =
+    record d {
+      evaluates = slice_set d.evaluates p false;
+      runs = slice_set d.runs p false;
+      waiting = slice_set d.waiting p (slice_index_or d.waiting p [] ++ prompt us);
+      lates = if is_empty (prompt us) then d.lates else (slice_set d.lates p true);
+      laters = d.laters ++ laters_of p (but_delay 0 us);
+    }
+
+-- a block has run: its writes are made, and it rests
+abbrev pub after_run : Events → List (List Listener) → ℕ → List Write → List Delayed → Events
+after_run e table p ws us = after_rest (all_written e table ws) p us
 
 -- the first active update of a writer is written
 abbrev pub after_take : Events → List (List Listener) → ℕ → List Update → Events
@@ -120,7 +153,11 @@ after_activate e = record e { active = e.waiting; waiting = e.active; takes = e.
 abbrev pub after_drive : Events → ℕ → Update → Events
 after_drive e p u = record e { waiting = slice_set e.waiting p (slice_index_or e.waiting p [] ++ u ∷ []); lates = slice_set e.lates p true }
 
--- as many of each kind as there are processes
+-- the update is one of these many processes'
+abbrev pub is_theirs : ℕ → Later → Bool
+is_theirs count l = nat_lt l.process count
+
+-- as many of each kind as there are processes, and what comes later is theirs
 pub record IsHeld (e : Events) : Type 0 where
   pub unstarted : length e.unstarted ≡ length e.assigns
   pub evaluates : length e.evaluates ≡ length e.assigns
@@ -131,3 +168,4 @@ pub record IsHeld (e : Events) : Type 0 where
   pub active : length e.active ≡ length e.assigns
   pub waiting : length e.waiting ≡ length e.assigns
   pub lates : length e.lates ≡ length e.assigns
+  pub laters : list_all (is_theirs (length e.assigns)) e.laters ≡ true

@@ -5,3 +5,4 @@ pub mod Laws
 pub mod Kept
 pub mod Choices
 pub mod Beginning
+pub mod Times

@@ -118,6 +118,7 @@ impl Events {
             active: no_updates(alloc, count)?,
             waiting: no_updates(alloc, count)?,
             lates: Numbers::new(alloc, count)?,
+            laters: VecDeque::new(alloc),
         })
     }
 }

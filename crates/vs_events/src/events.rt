@@ -21,7 +21,23 @@ impl Model for Updates {
     ghost view = { λ u. u.of.items };
 }
 
-/// The state of a queue but for the slots to come.
+/// An update of a writer that comes at a later time of the slot, so many units from now.
+#[derive(Drop)]
+pub(crate) struct Later {
+    pub(crate) process: u32,
+    pub(crate) left: u32,
+    pub(crate) update: Update,
+}
+
+impl Model for Later {
+    ghost use Rattle.vs_events.specs.Held as H;
+
+    ghost Value = { H.Later };
+
+    ghost view = { λ l. record { process = l.process; left = l.left; update = l.update } };
+}
+
+/// The state of a queue but for the time since the slot's beginning and the slots to come.
 #[derive(Drop)]
 pub struct Events {
     pub(crate) values: Vec<Bit4>,
@@ -35,6 +51,7 @@ pub struct Events {
     pub(crate) active: Vec<Updates>,
     pub(crate) waiting: Vec<Updates>,
     pub(crate) lates: Numbers,
+    pub(crate) laters: VecDeque<Later>,
 }
 
 impl Model for Events {

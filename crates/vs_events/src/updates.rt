@@ -1,19 +1,21 @@
 //! The updates of writers (IEEE 1364-2005, 11.3 and 11.4).
 
 ghost use Rattle.std.specs.Prelude.{◌≡◌, ◌<◌, nat_lt, ◌++◌, [], ◌∷◌, ℕ, true, false, not, length, slice_index_or, slice_set, if◌then◌else◌, IfSome, IfNone, OnOk};
+ghost use Rattle.std.specs.List.{list_all};
 ghost use Rattle.vs_net.specs.LevelRun.{is_empty};
-ghost use Rattle.vs_net.specs.Network.{is_written, Update as NetUpdate};
+ghost use Rattle.vs_net.specs.Network.{but_delay, is_written, Update as NetUpdate};
 ghost use Rattle.vs_ranked.specs.Members.{members};
-ghost use Rattle.vs_events.specs.Held.{first_update, all_written, after_activate, after_drive, after_run, after_take};
+ghost use Rattle.vs_events.specs.Held.{first_update, all_written, after_activate, after_drive, after_rest, after_run, after_take, is_theirs, laters_of, prompt};
 ghost use Rattle.vs_events.specs.Wired.{AreBelow};
 ghost use Rattle.std.specs.Prelude.{List};
 
-use crate::events::{Events, Updates};
+use crate::events::{Events, Later, Updates};
 use crate::steps::write_all;
 use crate::wiring::Wiring;
 use std::alloc::AllocError;
+use std::collections::VecDeque;
 use std::mem;
-use vs_writes::{Update, Write};
+use vs_writes::{Delayed, Update, Write};
 
 impl Updates {
     /// With one more behind the others.
@@ -51,24 +53,52 @@ impl Updates {
     }
 }
 
-/// Adds these updates behind the others.
-fn push_all(list: &mut Updates, updates: Vec<Update>) -> Result<(), AllocError>
-    ensures { OnOk result (list.new ≡ list.old ++ updates.items) }
+/// Whether one of these updates has no delay.
+fn has_prompt(updates: &[Delayed]) -> bool
+    ensures { result ≡ not (is_empty (prompt updates.now)) }
 {
-    for update in updates {
-        list.push(update)?;
+    for delayed in updates {
+        if delayed.delay() == 0 {
+            return true;
+        }
+    }
+    false
+}
+
+/// Adds those of these updates of a process that have no delay behind the others that it has waiting, and all others to what comes later.
+fn push_all(
+    list: &mut Updates,
+    laters: &mut VecDeque<Later>,
+    process: u32,
+    updates: Vec<Delayed>,
+) -> Result<(), AllocError>
+    ensures list { OnOk result (list.new ≡ list.old ++ prompt updates.items) }
+    ensures laters { OnOk result (laters.new.items ≡ laters.old.items ++ laters_of process (but_delay 0 updates.items)) }
+    ensures theirs { (count : ℕ) → process < count → list_all (is_theirs count) laters.old.items ≡ true → list_all (is_theirs count) laters.new.items ≡ true }
+{
+    for delayed in updates {
+        let (left, update) = delayed.into_parts();
+        if left == 0 {
+            list.push(update)?;
+        } else {
+            laters.push_back(Later {
+                process,
+                left,
+                update,
+            })?;
+        }
     }
     Ok(())
 }
 
 impl Events {
-    /// The block has run: its writes are made, it waits again, and its updates go behind those that it has waiting. Want of memory is the only error; the state is then of no use.
+    /// The block has run: its writes are made, it waits again, its updates without a delay go behind those that it has waiting, and the others come later. Want of memory is the only error; the state is then of no use.
     pub fn run(
         &mut self,
         wiring: &Wiring,
         p: u32,
         writes: &[Write],
-        updates: Vec<Update>,
+        updates: Vec<Delayed>,
     ) -> Result<(), AllocError>
         requires there { p < length self.old.assigns }
         requires inside { (b : ℕ) → is_written writes.now b ≡ true → b < length self.old.values }
@@ -79,17 +109,25 @@ impl Events {
         self.rest(p, updates)
     }
 
-    /// The block waits again, with these updates behind those that it has waiting.
-    fn rest(&mut self, p: u32, updates: Vec<Update>) -> Result<(), AllocError>
+    /// The block waits again, and is to have those of these updates waiting that have no delay.
+    fn wait(&mut self, p: u32, updates: &[Delayed])
         requires { p < length self.old.assigns }
-        ensures { OnOk result (self.new ≡ record self.old { evaluates = slice_set self.old.evaluates p false; runs = slice_set self.old.runs p false; waiting = slice_set self.old.waiting p (slice_index_or self.old.waiting p [] ++ updates.items); lates = if is_empty updates.items then self.old.lates else (slice_set self.old.lates p true) }) }
+        ensures { self.new ≡ record self.old { evaluates = slice_set self.old.evaluates p false; runs = slice_set self.old.runs p false; lates = if is_empty (prompt updates.now) then self.old.lates else (slice_set self.old.lates p true) } }
     {
         self.evaluates.remove(p);
         self.runs.remove(p);
-        if !updates.is_empty() {
+        if has_prompt(updates) {
             self.lates.insert(p);
         }
-        push_all(&mut self.waiting[p as usize], updates)
+    }
+
+    /// The block waits again, with these updates.
+    fn rest(&mut self, p: u32, updates: Vec<Delayed>) -> Result<(), AllocError>
+        requires { p < length self.old.assigns }
+        ensures { OnOk result (self.new ≡ after_rest self.old p updates.items) }
+    {
+        self.wait(p, updates.as_slice());
+        push_all(&mut self.waiting[p as usize], &mut self.laters, p, updates)
     }
 
     /// Whether an update waits.

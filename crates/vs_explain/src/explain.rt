@@ -48,6 +48,7 @@ fn explain_refused<D: Desk>(alloc: Global, job: Option<&Job>, refusal: &Refusal,
     requires unread { AreUnread (D.told desk.old).register }
     requires heads { ForSome job (λ j. length j.now.head ≤ most_bytes) }
     requires together { ForSome job (λ j. length j.now.others ≤ most_others) }
+    requires halves { ForSome job (λ j. 1 ≤ j.now.half) }
     ensures { ExplainsRefused (option_map (λ j. j.now) job.entry) refusal.now (D.told desk.old) (D.told desk.new) }
 {
     match job {
@@ -100,6 +101,7 @@ fn explain<D: Desk>(alloc: Global, job: Option<&Job>, answered: &Answered, desk:
     requires unread { AreUnread (D.told desk.old).register }
     requires heads { ForSome job (λ j. length j.now.head ≤ most_bytes) }
     requires together { ForSome job (λ j. length j.now.others ≤ most_others) }
+    requires halves { ForSome job (λ j. 1 ≤ j.now.half) }
     requires few { length answered.now.found.items ≤ most_lanes }
     ensures { Explains (option_map (λ j. j.now) job.entry) answered.now.outcome answered.now.found.items (D.told desk.old) (D.told desk.new) }
 {

@@ -47,10 +47,10 @@ as_long head other text starts drawn heavy ports e = rw e refl
 
 -- ---- the design, accepted
 
-ports_read : {tells : Bool} (top : Option (List ℕ)) (path : List ℕ) (others : List (List ℕ)) (head : List ℕ) (clocks : List (List ℕ)) (old new : Told tells) (text starts : List ℕ) (ports : Option PortLists) → IsJoined tells head old.contents.files path others text starts
-    → IsFaultless old.register new.register → TellsPorts false text top clocks ports
-    → IsPortsRead top path others head clocks old new (record { file = Some (drop (length head) text); starts = starts; head = length head; drawn = None; heavy = None; ports = ports })
-ports_read top path others head clocks old new text starts ports s quiet p = record {
+ports_read : {tells : Bool} (top : Option (List ℕ)) (path : List ℕ) (others : List (List ℕ)) (head : List ℕ) (clocks : List (List ℕ)) (half : ℕ) (old new : Told tells) (text starts : List ℕ) (ports : Option PortLists) → IsJoined tells head old.contents.files path others text starts
+    → IsFaultless old.register new.register → TellsPorts false text top clocks half ports
+    → IsPortsRead top path others head clocks half old new (record { file = Some (drop (length head) text); starts = starts; head = length head; drawn = None; heavy = None; ports = ports })
+ports_read top path others head clocks half old new text starts ports s quiet p = record {
   taken = s.taken;
   file_is = ap Some (ap (λ (xs : List ℕ). drop (length head) xs) s.text_is ∙ drop_at head s.taken (length head) refl);
   taken_is = s.taken_is;
@@ -58,15 +58,15 @@ ports_read top path others head clocks old new text starts ports s quiet p = rec
   head_is = refl;
   drawn_is = refl;
   heavy_is = refl;
-  ports_are = subst (λ (t : List ℕ). TellsPorts false t top clocks ports) s.text_is p;
+  ports_are = subst (λ (t : List ℕ). TellsPorts false t top clocks half ports) s.text_is p;
   faultless = quiet;
 }
 
-pub sees_ported : {tells : Bool} (top : Option (List ℕ)) (path : List ℕ) (others : List (List ℕ)) (head : List ℕ) (clocks : List (List ℕ)) (old new : Told tells) (text starts : List ℕ) (ports : Option PortLists) (seen : Seen) → OnlyRead old new
-    → IsJoined tells head old.contents.files path others text starts → IsFaultless old.register new.register → TellsPorts false text top clocks ports
-    → seen ≡ record { file = Some (drop (length head) text); starts = starts; head = length head; drawn = None; heavy = None; ports = ports } → SeesOf top (Some (ported path others head clocks)) old new seen
-sees_ported top path others head clocks old new text starts ports seen only s quiet p e =
-    subst (λ (x : Seen). SeesOf top (Some (ported path others head clocks)) old new x) (sym e) (only, inr (ports_read top path others head clocks old new text starts ports s quiet p))
+pub sees_ported : {tells : Bool} (top : Option (List ℕ)) (path : List ℕ) (others : List (List ℕ)) (head : List ℕ) (clocks : List (List ℕ)) (half : ℕ) (old new : Told tells) (text starts : List ℕ) (ports : Option PortLists) (seen : Seen) → OnlyRead old new
+    → IsJoined tells head old.contents.files path others text starts → IsFaultless old.register new.register → TellsPorts false text top clocks half ports
+    → seen ≡ record { file = Some (drop (length head) text); starts = starts; head = length head; drawn = None; heavy = None; ports = ports } → SeesOf top (Some (ported path others head clocks half)) old new seen
+sees_ported top path others head clocks half old new text starts ports seen only s quiet p e =
+    subst (λ (x : Seen). SeesOf top (Some (ported path others head clocks half)) old new x) (sym e) (only, inr (ports_read top path others head clocks half old new text starts ports s quiet p))
 
 -- ---- the design, weighed
 

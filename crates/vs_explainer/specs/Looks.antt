@@ -17,12 +17,12 @@ use Rattle.vs_setup.specs.DesignText.{joined_files}
 use Rattle.vs_explainer.specs.Heavy.{AreWeighed}
 use Rattle.vs_explainer.specs.Joined.{file_starts}
 
--- What is read again: the design with its further files, and the lines of macros before it, which is drawn or isn't; the design, of which the processes are weighed; the design, which is accepted with the input of this name
--- as its clocks, or without a clock, for the ports that stimuli name; or a stimulus, as far as one of its lines or, where none is known, as far as the text of a design may go.
+-- What is read again: the design with its further files, and the lines of macros before it, which is drawn or isn't; the design, of which the processes are weighed; the design, which is accepted with the inputs of these names
+-- as its clocks, or without a clock, and with this half-period, for the ports that stimuli name; or a stimulus, as far as one of its lines or, where none is known, as far as the text of a design may go.
 pub data Look : Type 0 where
   design : (path : List ℕ) (others : List (List ℕ)) (head : List ℕ) → (draws : Bool) → Look
   weighed : (path : List ℕ) (others : List (List ℕ)) (head : List ℕ) → Look
-  ported : (path : List ℕ) (others : List (List ℕ)) (head : List ℕ) → (clocks : List (List ℕ)) → Look
+  ported : (path : List ℕ) (others : List (List ℕ)) (head : List ℕ) → (clocks : List (List ℕ)) (half : ℕ) → Look
   stimulus : (path : List ℕ) → (lines : Option ℕ) → Look
 
 abbrev pub stimulus_look : (lines : Option ℕ) → List ℕ → Look
@@ -35,7 +35,7 @@ abbrev pub weighed_look : Job → Look
 weighed_look job = weighed job.design job.others job.head
 
 abbrev pub ported_look : Job → Look
-ported_look job = ported job.design job.others job.head job.clocks
+ported_look job = ported job.design job.others job.head job.clocks job.half
 
 -- The file of which lines are shown. Of a refusal with a byte it is the design, which is drawn where the refusal has numbers of the elaborated design; of one of a line
 -- of a stimulus it is the lane's stimulus, as far as that line; of one of the header or of the first vector it is the lane's stimulus; of a design that is too large it
@@ -92,7 +92,7 @@ pub record IsDesignWeighed {tells : Bool} (top : Option (List ℕ)) (path : List
   pub faultless : IsFaultless old.register new.register
 
 -- The design was read, as far as its text may go, and where this text is accepted its ports were seen, and where it is refused none. A header need not name an output for these.
-pub record IsPortsRead {tells : Bool} (top : Option (List ℕ)) (path : List ℕ) (others : List (List ℕ)) (head : List ℕ) (clocks : List (List ℕ)) (old new : Told tells) (seen : Seen) : Type 0 where
+pub record IsPortsRead {tells : Bool} (top : Option (List ℕ)) (path : List ℕ) (others : List (List ℕ)) (head : List ℕ) (clocks : List (List ℕ)) (half : ℕ) (old new : Told tells) (seen : Seen) : Type 0 where
   pub taken : List ℕ
   pub file_is : seen.file ≡ Some taken
   pub taken_is : IsTrue tells → taken ≡ take (most_bytes - length head) (joined_files old.contents.files path others)
@@ -100,7 +100,7 @@ pub record IsPortsRead {tells : Bool} (top : Option (List ℕ)) (path : List ℕ
   pub head_is : seen.head ≡ length head
   pub drawn_is : seen.drawn ≡ None
   pub heavy_is : seen.heavy ≡ None
-  pub ports_are : TellsPorts false (head ++ taken) top clocks seen.ports
+  pub ports_are : TellsPorts false (head ++ taken) top clocks half seen.ports
   pub faultless : IsFaultless old.register new.register
 
 -- The stimulus was read, as far as it is to be.
@@ -115,7 +115,7 @@ abbrev pub SeesOf : {tells : Bool} → Option (List ℕ) → Option Look → Tol
 SeesOf top None old new seen = (new ≡ old) × (seen ≡ unseen 0)
 SeesOf top (Some (design path others head draws)) old new seen = OnlyRead old new × (IsUnread (length head) old new seen ⊎ IsDesignRead top path others head draws old new seen)
 SeesOf top (Some (weighed path others head)) old new seen = OnlyRead old new × (IsUnread (length head) old new seen ⊎ IsDesignWeighed top path others head old new seen)
-SeesOf top (Some (ported path others head clocks)) old new seen = OnlyRead old new × (IsUnread (length head) old new seen ⊎ IsPortsRead top path others head clocks old new seen)
+SeesOf top (Some (ported path others head clocks half)) old new seen = OnlyRead old new × (IsUnread (length head) old new seen ⊎ IsPortsRead top path others head clocks half old new seen)
 SeesOf top (Some (stimulus path lines)) old new seen = OnlyRead old new × (IsUnread 0 old new seen ⊎ IsStimulusRead path lines old new seen)
 
 -- what is seen of a file, with the design that was drawn of another where none was of it, and the ports of that

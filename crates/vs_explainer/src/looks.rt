@@ -205,6 +205,7 @@ pub(crate) fn see_ports<D: Desk>(
     requires unread { AreUnread (D.told desk.old).register }
     requires head { length job.now.head ≤ most_bytes }
     requires few { length job.now.others ≤ most_others }
+    requires half { 1 ≤ job.now.half }
     ensures only { OnlyRead (D.told desk.old) (D.told desk.new) }
     ensures stimulus { IsNone ((D.told desk.new).register.attached stimulus_again) }
     ensures design { refuses refusal.now ≡ false → asks refusal.now ≡ false → AreUnread (D.told desk.new).register }

@@ -91,6 +91,7 @@ fn page_of<D: Desk>(
     requires unread { AreUnread (D.told desk.old).register }
     requires head { length job.now.head ≤ most_bytes }
     requires few { length job.now.others ≤ most_others }
+    requires half { 1 ≤ job.now.half }
     ensures only { OnlyRead (D.told desk.old) (D.told desk.new) }
     ensures page { IfOk result (λ page. (seen : Saw) × IsSeen job.now refusal.now (D.told desk.old) (D.told desk.new) seen × (page ≡ refusal_text job.now seen refusal.now)) }
 {
@@ -107,6 +108,7 @@ pub fn explain_refusal<D: Desk>(alloc: Global, job: &Job, refusal: &Refusal, des
     requires unread { AreUnread (D.told desk.old).register }
     requires head { length job.now.head ≤ most_bytes }
     requires few { length job.now.others ≤ most_others }
+    requires half { 1 ≤ job.now.half }
     ensures { ExplainsRefusal job.now refusal.now (D.told desk.old) (D.told desk.new) }
 {
     if let Ok(page) = page_of(alloc, job, refusal, desk) {

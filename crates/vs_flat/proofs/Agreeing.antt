@@ -161,11 +161,11 @@ arms_agree nodes statements f g s t other (arm ∷ arms) ff ss h k e =
 pub statement_agrees : (nodes statements : ℕ) (f g : ℕ → E.Expression) (s t : ℕ → T.Statement) (place : ℕ) (b : Statement) → EqualBelow nodes f g → EqualBelow statements s t
     → statement_names_below nodes statements b ≡ true → statement_tree f s place b ≡ statement_tree g t place b
 statement_agrees nodes statements f g s t place S.Empty ff ss h = refl
-statement_agrees nodes statements f g s t place (S.Assign target e blocking) ff ss h =
-    let b = (statement_parts nodes statements (S.Assign target e blocking) h).0 in
+statement_agrees nodes statements f g s t place (S.Assign target e blocking delay) ff ss h =
+    let b = (statement_parts nodes statements (S.Assign target e blocking delay) h).0 in
     let l = ff target (first_below nodes target (e ∷ []) b) in
     let r = ff e (first_below nodes e [] (rest_below nodes target (e ∷ []) b)) in
-    ap (λ x. T.Assignment place (target_tree x) (f e) blocking) l ∙ ap (λ x. T.Assignment place (target_tree (g target)) x blocking) r
+    ap (λ x. T.Assignment place (target_tree x) (f e) blocking delay) l ∙ ap (λ x. T.Assignment place (target_tree (g target)) x blocking delay) r
 statement_agrees nodes statements f g s t place (S.If c taken other) ff ss h =
     let b = statement_parts nodes statements (S.If c taken other) h in
     let condition : f c ≡ g c = ff c (first_below nodes c [] b.0) in

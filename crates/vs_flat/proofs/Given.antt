@@ -94,11 +94,11 @@ assign_target a w p at target e port found =
     is_this (target_of written) (T.Whole no_signal)
     (port_target port written (all_at (λ (q : Process). has_target (tree_at (arena_trees a)) q.kind) a.processes p (record { at = at; kind = K.Assign target e port }) w.assign_targets found))
 
-pub statement_target : (a : Arena) → IsLawful a → (s at target e : ℕ) (blocking : Bool) → slice_get a.statements s ≡ Some (placed (S.Assign target e blocking) at)
+pub statement_target : (a : Arena) → IsLawful a → (s at target e : ℕ) (blocking : Bool) (delay : ℕ) → slice_get a.statements s ≡ Some (placed (S.Assign target e blocking delay) at)
     → target_of (tree_at (arena_trees a) target) ≡ Some (target_tree (tree_at (arena_trees a) target))
-statement_target a w s at target e blocking found =
+statement_target a w s at target e blocking delay found =
     is_this (target_of (tree_at (arena_trees a) target)) (T.Whole no_signal)
-    (all_at (λ (t : Placed Statement). assigns_target (tree_at (arena_trees a)) t.item) a.statements s (placed (S.Assign target e blocking) at) w.statement_targets found)
+    (all_at (λ (t : Placed Statement). assigns_target (tree_at (arena_trees a)) t.item) a.statements s (placed (S.Assign target e blocking delay) at) w.statement_targets found)
 
 -- ---- functions
 

@@ -1,5 +1,5 @@
 -- A block that is left out of a flat design: an empty one stands in its place.
-use Rattle.std.proofs.Common.{◌≡◌, ℕ, zero, suc, ◌+◌, ◌<◌, ◌≤◌, ◌^◌, ◌-◌, Bool, true, false, not, ◌&&◌, ◌==◌, List, [], ◌∷◌, ◌++◌, map, set, length, refl, sym, ap, ap₂, ◌∙◌, subst, arith, length-append, cond, eqb-true, eq-eqb}
+use Rattle.std.proofs.Common.{◌≡◌, ℕ, zero, suc, ◌+◌, ◌<◌, ◌≤◌, ◌^◌, ◌-◌, Bool, true, false, ◌&&◌, ◌==◌, List, [], ◌∷◌, ◌++◌, map, set, length, refl, sym, ap, ap₂, ◌∙◌, subst, arith, length-append, cond, eqb-true, eq-eqb}
 use Rattle.std.specs.Prelude.{Option, None, Some, slice_get, nat_lt, nat_le}
 use Rattle.std.specs.List.{list_all, flat_map}
 use Rattle.std.proofs.Math.ListN.{length-set}
@@ -10,17 +10,16 @@ use Rattle.std.proofs.lemmas.List.Concat.{flat_map-cons}
 use Rattle.std.proofs.lemmas.List.Folds.{list_all-append}
 use Rattle.std.proofs.lemmas.List.Sums.{sum_by-append, fold-append}
 use Rattle.vs_four.specs.Selects.{Part}
-use Rattle.vs_design.specs.Expressions.{Signal, Source, OfSignal, OfConstant, Expression, Literal, Name, Select, Word, WordPart, Unary, Binary, Choice, Join, Repeat, At, Call, Items, NoItem, Item, Header}
+use Rattle.vs_design.specs.Expressions.{Signal, Source, OfSignal, OfConstant, Expression, Literal, Name, Select, Word, WordPart, Unary, Binary, Choice, Join, Repeat, At, Call, Items, NoItem, Item}
 use Rattle.vs_design.specs.Statements as T
 use Rattle.vs_design.specs.Statements.{Target, Whole, PartOf, WordOf, WordPartOf, Both}
 use Rattle.vs_design.specs.Designs as D
-use Rattle.vs_design.specs.Elaborated.{is_nil, inside, is_plain, has_words, is_formed_select, is_formed_word_part, is_formed_header, are_as_many, is_formed, are_formed, is_formed_target, is_formed_statement, are_formed_arms, has_items, is_formed_function, are_formed_events, is_formed_port, is_formed_process, has_constant_selects, has_clocked_words, is_formed_initial, are_behind, IsLawfulDesign}
+use Rattle.vs_design.specs.Elaborated.{is_nil, inside, has_words, is_formed_select, is_formed_word_part, is_formed_header, are_as_many, is_formed, are_formed, is_formed_target, is_formed_statement, are_formed_arms, has_items, is_formed_function, are_formed_events, is_formed_port, is_formed_process, has_constant_selects, has_clocked_words, is_formed_initial, are_behind, IsLawfulDesign}
 use Rattle.vs_design.specs.Fits.{fits_64}
 use Rattle.vs_design.specs.Footprints.{is_net, is_variable}
 use Rattle.vs_design.specs.Rules.{mixed_in}
 use Rattle.vs_flat.specs.declared.placed.Placed.{Placed}
 use Rattle.vs_flat.specs.declared.expressions.Node.{Node}
-use Rattle.vs_flat.specs.declared.processes.Event.{Event}
 use Rattle.vs_flat.specs.declared.processes.Kind.{Kind}
 use Rattle.vs_flat.specs.declared.processes.Kind.TheVariants as K
 use Rattle.vs_flat.specs.declared.processes.Process.{Process}
@@ -28,11 +27,11 @@ use Rattle.vs_flat.specs.declared.processes.Initial.{Initial}
 use Rattle.vs_flat.specs.declared.statements.Statement.{Statement}
 use Rattle.vs_flat.specs.declared.statements.Statement.TheVariants as S
 use Rattle.vs_flat.specs.Arena.{Arena, placed, with_statement, is_block, place_of, empty_block, with_empty}
-use Rattle.vs_flat.specs.Named.{all_below, statement_expressions, statement_statements, kind_signals, kind_expressions, kind_statements, statement_names_below, kind_names_below}
+use Rattle.vs_flat.specs.Named.{all_below, statement_expressions, statement_statements, kind_expressions, kind_statements, statement_names_below, kind_names_below}
 use Rattle.vs_flat.specs.Trees.{signal_at, tree_at, statement_at}
 use Rattle.vs_flat.specs.DesignOf.{process_of, arena_signals, arena_trees, arena_statements, design_of}
-use Rattle.vs_flat.specs.Lawful.{are_different, statements_name_earlier, NamesEarlier, has_target, assigns_target, node_names, named_expressions, named_statements, deepest, node_depths, with_statement_depth, statement_depths, are_chains, node_home, statement_home, at_home, node_design, statement_design, trees_formed, statements_formed, IsLawful}
-use Rattle.vs_flat.proofs.Agreeing.{and_both, and_true, below_append, kind_parts, statement_parts, first_below, rest_below}
+use Rattle.vs_flat.specs.Lawful.{are_different, statements_name_earlier, NamesEarlier, has_target, assigns_target, node_names, named_expressions, named_statements, node_depths, with_statement_depth, statement_depths, are_chains, node_home, statement_home, at_home, statement_design, trees_formed, statements_formed, IsLawful}
+use Rattle.vs_flat.proofs.Agreeing.{and_both, and_true, kind_parts, statement_parts, first_below, rest_below}
 use Rattle.vs_flat.proofs.Building.{some_is}
 use Rattle.vs_flat.proofs.Different.{times, different_once, once_different}
 use Rattle.vs_flat.proofs.Earlier.{below_more, names_with_statement}
@@ -153,7 +152,7 @@ module _ (d : D.Design) (ps : List D.Process) (is : List D.Initial) (fs : List T
   mutual
     statement_formed : (s : T.Statement) → is_formed_statement other s ≡ is_formed_statement d s
     statement_formed T.Empty = refl
-    statement_formed (T.Assignment place target e blocking) = ap₂ (λ (b c : Bool). b && c) (target_formed is_variable target) (expression_formed e)
+    statement_formed (T.Assignment place target e blocking delay) = ap₂ (λ (b c : Bool). b && c) (target_formed is_variable target) (expression_formed e)
     statement_formed (T.Then first rest) = ap₂ (λ (b c : Bool). b && c) (statement_formed first) (statement_formed rest)
     statement_formed (T.If c taken otherwise) = ap₂ (λ (b c : Bool). b && c) (ap₂ (λ (b c : Bool). b && c) (expression_formed c) (statement_formed taken)) (statement_formed otherwise)
     statement_formed (T.Case kind subject arms) = ap₂ (λ (b c : Bool). b && c) (expression_formed subject) (arms_formed arms)

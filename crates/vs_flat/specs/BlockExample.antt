@@ -1,4 +1,4 @@
--- The design `module top(input clk, input [3:0] a, output reg [3:0] q); always @(posedge clk) if (a[0]) q <= {2{a[1], 1'b0}}; else begin case (a[2 +: 2]) 2'd1: q[1] <= ~a[2]; default ; endcase end initial q = 1; endmodule`.
+-- The design `module top(input clk, input [3:0] a, output reg [3:0] q); always @(posedge clk) if (a[0]) q <= {2{a[1], 1'b0}}; else begin case (a[2 +: 2]) 2'd1: q[1] <= #2 ~a[2]; default ; endcase end initial q = 1; endmodule`.
 use Rattle.std.specs.Prelude.{ℕ, ◌+◌, true, false, [], ◌∷◌, None, Some}
 use Rattle.vs_four.specs.declared.Range.{Range}
 use Rattle.vs_four.specs.Numbers.{bits_of}
@@ -31,7 +31,7 @@ block_arena = record empty_arena {
       ∷ record { name = 113 ∷ []; scope = 0; net = false; input = false; range = Some four_bits; signed = false; first_bit = 5; words = None; integer = false }
       ∷ [];
   processes = record { at = 58; kind = K.Block false (record { signal = 0; edge = G.Posedge } ∷ []) 5 } ∷ [];
-  initials = record { at = 183; behind = 1; statement = 6 } ∷ [];
+  initials = record { at = 186; behind = 1; statement = 6 } ∷ [];
   nodes =
       placed (N.Name 1) 84 ∷ placed (index 0) 86 ∷ placed (N.Bit 0 four_bits 1) 84
       ∷ placed (N.Name 2) 90
@@ -39,13 +39,13 @@ block_arena = record empty_arena {
       ∷ placed (N.Name 1) 129 ∷ placed (index 2) 131 ∷ placed (N.Part 9 four_bits 10 true 2) 129
       ∷ placed (N.Literal (bits_of 2 1) false true) 140
       ∷ placed (N.Name 2) 146 ∷ placed (index 1) 148 ∷ placed (N.Bit 13 four_bits 14) 146
-      ∷ placed (N.Name 1) 155 ∷ placed (index 2) 157 ∷ placed (N.Bit 16 four_bits 17) 155 ∷ placed (N.Unary U.BitNot 18) 154
-      ∷ placed (N.Name 2) 191 ∷ placed (index 1) 195
+      ∷ placed (N.Name 1) 158 ∷ placed (index 2) 160 ∷ placed (N.Bit 16 four_bits 17) 158 ∷ placed (N.Unary U.BitNot 18) 157
+      ∷ placed (N.Name 2) 194 ∷ placed (index 1) 198
       ∷ [];
   statements =
-      placed (S.Assign 3 8 false) 90 ∷ placed (S.Assign 15 19 false) 146 ∷ placed S.Empty 169
+      placed (S.Assign 3 8 false 0) 90 ∷ placed (S.Assign 15 19 false 2) 146 ∷ placed S.Empty 172
       ∷ placed (S.Case C.Exact 11 (record { items = 12 ∷ []; statement = 1 } ∷ []) (Some 2)) 123 ∷ placed (S.Seq (3 ∷ [])) 117 ∷ placed (S.If 2 0 (Some 4)) 80
-      ∷ placed (S.Assign 20 21 true) 191
+      ∷ placed (S.Assign 20 21 true 0) 194
       ∷ [];
 }
 
@@ -75,12 +75,12 @@ block_design = record {
   processes =
       D.Always 58 false (record { signal = plain_clk; edge = D.Posedge } ∷ [])
       (T.If (bit_of_a 84 0)
-      (T.Assignment 90 (T.Whole register_q) (E.At 95 (E.Repeat 2 (E.Join (bit_of_a 98 1) (E.At 104 (E.Literal (bits_of 1 0) false true))))) false)
+      (T.Assignment 90 (T.Whole register_q) (E.At 95 (E.Repeat 2 (E.Join (bit_of_a 98 1) (E.At 104 (E.Literal (bits_of 1 0) false true))))) false 0)
       (T.Case T.Exact (E.At 129 (E.Select (E.OfSignal vector_a) two_bits (plain_index 131 2)))
       (T.Arm (E.items_of (E.At 140 (E.Literal (bits_of 2 1) false true) ∷ []))
-      (T.Assignment 146 (T.PartOf register_q (one_bit four_bits) (plain_index 148 1)) (E.At 154 (E.Unary E.BitNot (bit_of_a 155 2))) false)
+      (T.Assignment 146 (T.PartOf register_q (one_bit four_bits) (plain_index 148 1)) (E.At 157 (E.Unary E.BitNot (bit_of_a 158 2))) false 2)
       (T.Default T.Empty))))
       ∷ [];
-  initials = record { place = 183; behind = 1; statement = T.Assignment 191 (T.Whole register_q) (plain_index 195 1) true } ∷ [];
+  initials = record { place = 186; behind = 1; statement = T.Assignment 194 (T.Whole register_q) (plain_index 198 1) true 0 } ∷ [];
   functions = [];
 }

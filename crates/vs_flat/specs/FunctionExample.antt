@@ -31,7 +31,7 @@ function_arena = record empty_arena {
       ∷ placed (N.Local 0 2) 144 ∷ placed (N.Local 0 1) 150
       ∷ placed (N.Name 3) 172 ∷ placed (N.Name 1) 180 ∷ placed (N.Name 2) 183 ∷ placed (N.Call 0 (8 ∷ 9 ∷ [])) 176
       ∷ [];
-  statements = placed (S.Assign 3 4 true) 130 ∷ placed (S.Assign 5 6 true) 144 ∷ placed (S.If 2 0 (Some 1)) 119 ∷ [];
+  statements = placed (S.Assign 3 4 true 0) 130 ∷ placed (S.Assign 5 6 true 0) 144 ∷ placed (S.If 2 0 (Some 1)) 119 ∷ [];
   processes = record { at = 165; kind = K.Assign 7 10 P.Written } ∷ [];
 }
 
@@ -43,8 +43,8 @@ plain_max = record {
   header = record { place = 69; inputs = plain_vector (codes "u") 0 false true 0 ∷ plain_vector (codes "v") 1 false true 4 ∷ []; result = plain_vector (codes "max") 2 false false 8; own = [] };
   statement =
       T.If (E.At 123 (E.Binary E.Greater (E.At 123 (E.Name (plain_vector (codes "u") 0 false true 0))) (E.At 127 (E.Name (plain_vector (codes "v") 1 false true 4)))))
-      (T.Assignment 130 (T.Whole (plain_vector (codes "max") 2 false false 8)) (E.At 136 (E.Name (plain_vector (codes "u") 0 false true 0))) true)
-      (T.Assignment 144 (T.Whole (plain_vector (codes "max") 2 false false 8)) (E.At 150 (E.Name (plain_vector (codes "v") 1 false true 4))) true);
+      (T.Assignment 130 (T.Whole (plain_vector (codes "max") 2 false false 8)) (E.At 136 (E.Name (plain_vector (codes "u") 0 false true 0))) true 0)
+      (T.Assignment 144 (T.Whole (plain_vector (codes "max") 2 false false 8)) (E.At 150 (E.Name (plain_vector (codes "v") 1 false true 4))) true 0);
 }
 
 abbrev pub function_design : D.Design

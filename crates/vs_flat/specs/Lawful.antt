@@ -97,7 +97,7 @@ has_target tree (K.Block star events statement) = true
 
 -- and what an assignment writes (9.2)
 abbrev pub assigns_target : (ℕ → E.Expression) → Statement → Bool
-assigns_target tree (S.Assign target e blocking) = is_some (target_of (tree target))
+assigns_target tree (S.Assign target e blocking delay) = is_some (target_of (tree target))
 assigns_target tree _ = true
 
 -- the expressions that a node names, each copy of a replication counted once

@@ -201,7 +201,7 @@ AssignTargets = (a : Arena) → IsLawful a → (p at target e : ℕ) (port : Por
     → target_of (tree_at (arena_trees a) target) ≡ Some (target_tree (tree_at (arena_trees a) target))
 
 abbrev pub StatementTargets : Type 0
-StatementTargets = (a : Arena) → IsLawful a → (s at target e : ℕ) (blocking : Bool) → slice_get a.statements s ≡ Some (placed (S.Assign target e blocking) at)
+StatementTargets = (a : Arena) → IsLawful a → (s at target e : ℕ) (blocking : Bool) (delay : ℕ) → slice_get a.statements s ≡ Some (placed (S.Assign target e blocking delay) at)
     → target_of (tree_at (arena_trees a) target) ≡ Some (target_tree (tree_at (arena_trees a) target))
 
 -- a lawful design's functions have results, and their local bits are few

@@ -39,14 +39,14 @@ node_signals _ = []
 
 abbrev pub statement_expressions : Statement → List ℕ
 statement_expressions S.Empty = []
-statement_expressions (S.Assign target e blocking) = target ∷ e ∷ []
+statement_expressions (S.Assign target e blocking delay) = target ∷ e ∷ []
 statement_expressions (S.If c taken other) = c ∷ []
 statement_expressions (S.Case kind of arms other) = of ∷ flat_map (λ (arm : Arm). arm.items) arms
 statement_expressions (S.Seq parts) = []
 
 abbrev pub statement_statements : Statement → List ℕ
 statement_statements S.Empty = []
-statement_statements (S.Assign target e blocking) = []
+statement_statements (S.Assign target e blocking delay) = []
 statement_statements (S.If c taken other) = taken ∷ option_to_list other
 statement_statements (S.Case kind of arms other) = map (λ (arm : Arm). arm.statement) arms ++ option_to_list other
 statement_statements (S.Seq parts) = parts

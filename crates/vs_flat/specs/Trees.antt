@@ -101,7 +101,7 @@ arms_tree tree statement other (arm ∷ arms) = T.Arm (E.items_of (map tree arm.
 
 abbrev pub statement_tree : (ℕ → E.Expression) → (ℕ → T.Statement) → ℕ → Statement → T.Statement
 statement_tree tree statement place S.Empty = T.Empty
-statement_tree tree statement place (S.Assign target e blocking) = T.Assignment place (target_tree (tree target)) (tree e) blocking
+statement_tree tree statement place (S.Assign target e blocking delay) = T.Assignment place (target_tree (tree target)) (tree e) blocking delay
 statement_tree tree statement place (S.If c taken other) = T.If (tree c) (statement taken) (branch statement other)
 statement_tree tree statement place (S.Case kind of arms other) = T.Case kind (tree of) (arms_tree tree statement other arms)
 statement_tree tree statement place (S.Seq parts) = sequence (map statement parts)

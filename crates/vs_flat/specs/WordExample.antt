@@ -35,7 +35,7 @@ word_arena = record empty_arena {
       ∷ placed (N.Name 1) 168 ∷ placed (N.Word 4 3) 166 ∷ placed (N.Name 2) 179 ∷ placed (N.Call 0 (5 ∷ [])) 174
       ∷ placed (N.Name 3) 190 ∷ placed (N.Name 1) 201 ∷ placed (N.Word 4 8) 199 ∷ placed (N.Call 0 (9 ∷ [])) 194
       ∷ [];
-  statements = placed (S.Assign 0 2 true) 123 ∷ placed (S.Assign 4 6 false) 166 ∷ [];
+  statements = placed (S.Assign 0 2 true 0) 123 ∷ placed (S.Assign 4 6 false 0) 166 ∷ [];
   processes = record { at = 146; kind = K.Block false (record { signal = 0; edge = G.Posedge } ∷ []) 1 } ∷ record { at = 183; kind = K.Assign 7 10 P.Written } ∷ [];
 }
 
@@ -51,7 +51,7 @@ plain_result = plain_two_bits (codes "next") 1 false false 2 None
 abbrev pub plain_next : T.Function
 plain_next = record {
   header = record { place = 84; inputs = plain_n ∷ []; result = plain_result; own = [] };
-  statement = T.Assignment 123 (T.Whole plain_result) (E.At 130 (E.Unary E.BitNot (E.At 131 (E.Name plain_n)))) true;
+  statement = T.Assignment 123 (T.Whole plain_result) (E.At 130 (E.Unary E.BitNot (E.At 131 (E.Name plain_n)))) true 0;
 }
 
 abbrev pub plain_call : ℕ → E.Expression → E.Expression
@@ -77,7 +77,7 @@ word_design = record {
   scopes = record { name = codes "top"; parent = None; instance = true } ∷ [];
   signals = word_clk ∷ plain_a ∷ plain_d ∷ plain_q ∷ plain_m ∷ [];
   processes =
-      D.Always 146 false (record { signal = word_clk; edge = D.Posedge } ∷ []) (T.Assignment 166 (T.WordOf plain_m (E.At 168 (E.Name plain_a))) (plain_call 174 (E.At 179 (E.Name plain_d))) false)
+      D.Always 146 false (record { signal = word_clk; edge = D.Posedge } ∷ []) (T.Assignment 166 (T.WordOf plain_m (E.At 168 (E.Name plain_a))) (plain_call 174 (E.At 179 (E.Name plain_d))) false 0)
       ∷ D.Continuous 183 D.Written 190 (T.Whole plain_q) (plain_call 194 (E.At 199 (E.Word plain_m (E.At 201 (E.Name plain_a)))))
       ∷ [];
   initials = [];

@@ -14,11 +14,12 @@ pub struct Arm {
 pub enum Statement {
     /// A lone `;`.
     Empty,
-    /// A blocking or nonblocking assignment (IEEE 1364-2005, 9.2).
+    /// A blocking or nonblocking assignment (IEEE 1364-2005, 9.2). A nonblocking one comes after its delay in units of time, if any (9.7.7).
     Assign {
         target: u32,
         expr: u32,
         blocking: bool,
+        delay: u32,
     },
     /// `if` (IEEE 1364-2005, 9.4).
     If {

@@ -57,7 +57,7 @@ several_statements f (x ∷ y ∷ xs) l = some_of (suc (length xs))
 
 pub other_statement : (tree : ℕ → Expression) (body : ℕ → T.Statement) (place : ℕ) (i : Statement) → (i ≡ S.Empty → ⊥) → ((parts : List ℕ) → i ≡ S.Seq parts → ⊥) → false ≡ is_nothing (statement_tree tree body place i)
 other_statement tree body place S.Empty h k = absurd (h refl)
-other_statement tree body place (S.Assign target e blocking) h k = refl
+other_statement tree body place (S.Assign target e blocking delay) h k = refl
 other_statement tree body place (S.If c taken other) h k = refl
 other_statement tree body place (S.Case kind of arms other) h k = refl
 other_statement tree body place (S.Seq parts) h k = absurd (k parts refl)

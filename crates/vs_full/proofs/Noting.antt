@@ -84,10 +84,10 @@ no_case_empty a c s is kind of arms other e = absurd (differ (same_statement S.E
     differ : S.Empty ≡ S.Case kind of arms other → ⊥
     differ h = cc
 
-no_case_assign : (a : Arena) (c : Found) (s target e : ℕ) (blocking : Bool) → statement_at a s ≡ Some (S.Assign target e blocking) → IsCaseNoted a c s
-no_case_assign a c s target e blocking is kind of arms other at = absurd (differ (same_statement (S.Assign target e blocking) (S.Case kind of arms other) (statement_at a s) is at))
+no_case_assign : (a : Arena) (c : Found) (s target e : ℕ) (blocking : Bool) (delay : ℕ) → statement_at a s ≡ Some (S.Assign target e blocking delay) → IsCaseNoted a c s
+no_case_assign a c s target e blocking delay is kind of arms other at = absurd (differ (same_statement (S.Assign target e blocking delay) (S.Case kind of arms other) (statement_at a s) is at))
   where
-    differ : S.Assign target e blocking ≡ S.Case kind of arms other → ⊥
+    differ : S.Assign target e blocking delay ≡ S.Case kind of arms other → ⊥
     differ h = cc
 
 no_case_if : (a : Arena) (c : Found) (s b taken : ℕ) (untaken : Option ℕ) → statement_at a s ≡ Some (S.If b taken untaken) → IsCaseNoted a c s
@@ -107,10 +107,10 @@ empty_noted a x s n is e =
     let at : statement_at a s ≡ Some S.Empty = is ∙ ap Some e in
     all_noted a x s S.Empty at (no_case_empty a x s at) (λ p h. cc)
 
-pub assign_noted : (a : Arena) (x : Found) (s target e : ℕ) (blocking : Bool) (n : Statement) → statement_at a s ≡ Some n → n ≡ S.Assign target e blocking → AreNoted a x s
-assign_noted a x s target e blocking n is same =
-    let at : statement_at a s ≡ Some (S.Assign target e blocking) = is ∙ ap Some same in
-    all_noted a x s (S.Assign target e blocking) at (no_case_assign a x s target e blocking at) (λ p h. cc)
+pub assign_noted : (a : Arena) (x : Found) (s target e : ℕ) (blocking : Bool) (delay : ℕ) (n : Statement) → statement_at a s ≡ Some n → n ≡ S.Assign target e blocking delay → AreNoted a x s
+assign_noted a x s target e blocking delay n is same =
+    let at : statement_at a s ≡ Some (S.Assign target e blocking delay) = is ∙ ap Some same in
+    all_noted a x s (S.Assign target e blocking delay) at (no_case_assign a x s target e blocking delay at) (λ p h. cc)
 
 pub if_noted : (a : Arena) (x y z : Found) (s b taken : ℕ) (untaken : Option ℕ) (n : Statement) → statement_at a s ≡ Some n → n ≡ S.If b taken untaken → IsGrown a x y (λ c. AreNoted a c taken) → IsGrown a y z (λ c. AreNotedIn a c untaken) → IsGrown a x z (λ c. AreNoted a c s)
 if_noted a x y z s b taken untaken n is same g h =

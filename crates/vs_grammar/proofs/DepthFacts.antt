@@ -6,7 +6,7 @@ use Rattle.vs_grammar.specs.Kinds.{number_of}
 use Rattle.vs_grammar.specs.Grammars.{Phrase, Terminal, opt, star, depth}
 use Rattle.vs_grammar.specs.Grammars.Phrase.{tok, eps, seq, alt, last, many, level}
 use Rattle.vs_grammar.specs.Grammars.Tree.{leaf, nothing, both, former, latter, without, within, start, grown, alone, behind, nested, named}
-use Rattle.vs_grammar.specs.Verilog.{braced, braces, call, slice_end, select_end, case_statement, sequence, loop, assigned, ◌⨾◌, ◌∣◌, t, r, phrase_of, separated, named_primary, sign_and_range, reg_type, conditional, Rule as rule}
+use Rattle.vs_grammar.specs.Verilog.{braced, braces, call, slice_end, select_end, case_statement, sequence, loop, assigned, assignment_sign, delay_value, ◌⨾◌, ◌∣◌, t, r, phrase_of, separated, named_primary, sign_and_range, reg_type, conditional, Rule as rule}
 use Rattle.vs_grammar.specs.Trees.{AndExpr, AndTarget, AndStatement, AndArm, AndGenerateArm, AndItem}
 use Rattle.vs_grammar.specs.Trees as tree
 use Rattle.vs_grammar.specs.Meaning.{D, each_onto, behind_sign, list_of, option_of}
@@ -282,6 +282,18 @@ module _ (bytes : ℕ → List ℕ) where
   pub labels_is : (d : D (separated (r rule.Expression))) → deepest expr_depth (list_of (meaning.expr_of bytes) d) ≡ depth d
   labels_is d = list_is (meaning.expr_of bytes) expr_depth (expr_is bytes) d
 
+-- ---- delays
+
+module _ (bytes : ℕ → List ℕ) where
+  delay_value_is : (d : D delay_value) → expr_depth (meaning.delay_value_of bytes d) ≡ depth d
+  delay_value_is (former n) = sym (flat n refl)
+  delay_value_is (latter (former n)) = sym (flat n refl)
+  delay_value_is (latter (latter (both o (both e z)))) = let h = expr_is bytes e in let f = flat o refl in let g = flat z refl in omega arith
+
+  sign_is : (d : D assignment_sign) → option_depth expr_depth (meaning.delay_of bytes d) ≡ depth d
+  sign_is (former o) = sym (flat o refl)
+  sign_is (latter (both o d)) = let h = option_is (behind_sign (meaning.delay_value_of bytes)) expr_depth (behind_is refl (meaning.delay_value_of bytes) expr_depth delay_value_is) d in let f = flat o refl in omega arith
+
 -- ---- statements, where it holds of all that are smaller than s
 
 module _ (bytes : ℕ → List ℕ) (s : ℕ) (smaller : (d : D (r rule.Statement)) → size d < s → statement_depth (meaning.statement_of bytes d) ≡ depth d) where
@@ -330,7 +342,7 @@ module _ (bytes : ℕ → List ℕ) (s : ℕ) (smaller : (d : D (r rule.Statemen
   loop_is (both u d) w = let h = head_is bytes u in let i = smaller d (omega arith) in omega arith
 
   assigned_is : (d : D assigned) → statement_depth (meaning.statement_of bytes (named (nested (latter (latter (latter (latter (latter d)))))))) ≡ 1 + depth d
-  assigned_is (both x (both o (both e z))) = let h = target_is bytes x in let i = expr_is bytes e in let f = flat o refl in let g = flat z refl in omega arith
+  assigned_is (both x (both o (both e z))) = let h = target_is bytes x in let i = expr_is bytes e in let f = sign_is bytes o in let g = flat z refl in omega arith
 
   statement_next : (d : D (r rule.Statement)) → size d ≤ s → statement_depth (meaning.statement_of bytes d) ≡ depth d
   statement_next (named (nested (former (leaf a)))) w = omega arith

@@ -11,7 +11,7 @@ use Rattle.vs_grammar.specs.Trees.{Name, Variables, Declarator, Signals, Setting
 use Rattle.vs_grammar.specs.Trees as tree
 use Rattle.vs_grammar.specs.Meaning.{D, each_onto, behind_sign, list_of, option_of}
 use Rattle.vs_grammar.specs.Meaning as meaning
-use Rattle.vs_grammar.specs.Depths.{deepest, option_depth, expr_depth, range_depth, value_type_depth, variables_depth, declarator_depth, signals_depth, setting_depth, parameters_depth, assign_depth, connection_depth, connections_depth, instance_depth, function_depth, item_depth, block_depth, block_fallback_depth, generate_arms_depth, items_depth, header_depth, module_depth, TreeIsAsDeep}
+use Rattle.vs_grammar.specs.Depths.{deepest, option_depth, expr_depth, range_depth, variables_depth, declarator_depth, signals_depth, setting_depth, parameters_depth, assign_depth, connection_depth, connections_depth, instance_depth, function_depth, item_depth, block_depth, block_fallback_depth, generate_arms_depth, items_depth, header_depth, module_depth, TreeIsAsDeep}
 use Rattle.vs_grammar.proofs.DepthFacts.{is_flat, flat, size, each_is, behind_is, list_is, option_is, expr_is, labels_is, range_is, value_type_is, input_type_is, variables_is, setting_is, head_is, target_is, statement_is}
 
 -- ---- events have no levels

@@ -7,12 +7,12 @@ use Rattle.vs_grammar.specs.Kinds.{number_of}
 use Rattle.vs_grammar.specs.Grammars.{Phrase, Terminal, opt, star, onto, Fits}
 use Rattle.vs_grammar.specs.Grammars.Phrase.{seq, last, level}
 use Rattle.vs_grammar.specs.Grammars.Tree.{leaf, nothing, both, former, latter, without, within, start, grown, alone, behind, nested, named}
-use Rattle.vs_grammar.specs.Verilog.{braced, braces, call, slice_end, select_end, case_statement, sequence, loop, assigned, ◌⨾◌, ◌∣◌, t, r, phrase_of, separated, named_primary, sign_and_range, reg_type, number, conditional, Rule as rule}
+use Rattle.vs_grammar.specs.Verilog.{braced, braces, call, slice_end, select_end, case_statement, sequence, loop, assigned, assignment_sign, delay_value, ◌⨾◌, ◌∣◌, t, r, phrase_of, separated, named_primary, sign_and_range, reg_type, number, conditional, Rule as rule}
 use Rattle.vs_grammar.specs.Trees.{AndExpr, AndTarget, AndStatement}
 use Rattle.vs_grammar.specs.Trees as tree
 use Rattle.vs_grammar.specs.Meaning.{D, each_onto, behind_sign, list_of, option_of}
 use Rattle.vs_grammar.specs.Meaning as meaning
-use Rattle.vs_grammar.specs.Shapes.{IsName, IsLiteral, Each, OneOrMore, Given, IsExpr, AreParts, AreExprs, is_part, IsSelect, IsRange, IsValueType, AreVariables, IsScope, IsSetting, IsHead, IsTarget, AreTargets, IsStatement, IsFallback, AreStatements, AreArms, HasArm}
+use Rattle.vs_grammar.specs.Shapes.{IsName, IsLiteral, Each, OneOrMore, Given, IsExpr, AreParts, AreExprs, is_part, IsSelect, IsRange, IsValueType, AreVariables, IsScope, IsSetting, IsHead, IsTarget, AreTargets, HasSign, IsStatement, IsFallback, AreStatements, AreArms, HasArm}
 use Rattle.vs_grammar.proofs.DepthFacts.{size}
 
 -- ---- tokens that are what they seem
@@ -301,6 +301,23 @@ module _ (bytes : ℕ → List ℕ) (numbers : (a : Terminal) → IsLiteral (mea
     targets_onto_ok (start z) rest p q = q
     targets_onto_ok (grown l (both c x)) rest p q = targets_onto_ok l (AndTarget (meaning.target_of bytes x) rest) p.0 (target_ok x p.1.1, q)
 
+-- ---- delays
+
+module _ (bytes : ℕ → List ℕ) (numbers : (a : Terminal) → IsLiteral (meaning.literal_at bytes a)) where
+  delay_value_ok : (d : D delay_value) → Sound bytes d → IsExpr (meaning.delay_value_of bytes d)
+  delay_value_ok (former (former (leaf a))) p = numbers a
+  delay_value_ok (former (latter (leaf a))) p = numbers a
+  delay_value_ok (latter (former n)) p = (name_ok bytes n p, tt)
+  delay_value_ok (latter (latter (both o (both e z)))) p = expr_ok bytes numbers e p.1.0
+
+  delay_ok : (d : D assignment_sign) → Sound bytes d → Given IsExpr (meaning.delay_of bytes d)
+  delay_ok (former o) p = tt
+  delay_ok (latter (both o d)) p = option_ok bytes (behind_sign (meaning.delay_value_of bytes)) IsExpr (behind_ok bytes (meaning.delay_value_of bytes) IsExpr delay_value_ok) d p.1
+
+sign_ok : (bytes : ℕ → List ℕ) (d : D assignment_sign) → HasSign (meaning.is_blocking d) (meaning.delay_of bytes d)
+sign_ok bytes (former o) = tt
+sign_ok bytes (latter (both o d)) = tt
+
 -- ---- statements, where it holds of all that are smaller than s
 module _ (bytes : ℕ → List ℕ) (numbers : (a : Terminal) → IsLiteral (meaning.literal_at bytes a)) (s : ℕ) (smaller : (d : D (r rule.Statement)) → size d < s → Sound bytes d → IsStatement (meaning.statement_of bytes d)) where
   else_ok : (d : D (last (number_of kind.KeywordElse) (r rule.Statement))) → size d ≤ s → Sound bytes d → IsFallback (meaning.else_of bytes d)
@@ -358,7 +375,7 @@ module _ (bytes : ℕ → List ℕ) (numbers : (a : Terminal) → IsLiteral (mea
   loop_ok (both u d) w p = (head_ok bytes numbers u p.0, smaller d (omega arith) p.1)
 
   assigned_ok : (d : D assigned) → Sound bytes d → IsStatement (meaning.statement_of bytes (named (nested (latter (latter (latter (latter (latter d))))))))
-  assigned_ok (both x (both o (both e z))) p = (target_ok bytes numbers x p.0, expr_ok bytes numbers e p.1.1.0)
+  assigned_ok (both x (both o (both e z))) p = (target_ok bytes numbers x p.0, expr_ok bytes numbers e p.1.1.0, delay_ok bytes numbers o p.1.0, sign_ok bytes o)
 
   statement_next : (d : D (r rule.Statement)) → size d ≤ s → Sound bytes d → IsStatement (meaning.statement_of bytes d)
   statement_next (named (nested (former (leaf a)))) w p = tt

@@ -9,7 +9,7 @@ use Rattle.vs_lexer.specs.declared.token.LexError.{LexError}
 use Rattle.vs_lexer.specs.declared.token.TokenKind.{TokenKind}
 use Rattle.vs_lexer.specs.declared.token.TokenKind.TheVariants as kind
 use Rattle.vs_lexer.specs.Cuts.{cut_text, spelling_of}
-use Rattle.vs_lexer.specs.LeftOut.{is_left_out, is_left_out_between, is_left_out_kind, is_hash, is_identifier, is_open, is_star, is_close, kind_at, kind_before}
+use Rattle.vs_lexer.specs.LeftOut.{is_left_out, is_left_out_between, is_left_out_kind, is_hash, takes_hash, is_open, is_star, is_close, kind_at, kind_before}
 use Rattle.std.specs.List.{list_any}
 use Rattle.vs_lexer.proofs.Spans.{tokens_stand}
 use Rattle.vs_pre.specs.Words.{is_directive, is_decimal, is_based}
@@ -115,7 +115,7 @@ begins_by o next after = elim o [ None ↦ false | Some k ↦ is_open k && is_st
 
 no_beginning : (o before next after : Option TokenKind) → (elim o as (λ _. Bool) [ None ↦ false | Some k ↦ is_left_out_between before k next after ]) ≡ false → begins_by o next after ≡ false
 no_beginning None before next after e = refl
-no_beginning (Some k) before next after e = or_last (is_left_out_kind k) (is_hash k && not (is_identifier before)) (is_open k && is_star next && not (is_close after)) e
+no_beginning (Some k) before next after e = or_last (is_left_out_kind k) (is_hash k && not (takes_hash before)) (is_open k && is_star next && not (is_close after)) e
 
 kind_dropped : (ts : List Token) (n k : ℕ) → kind_at (drop n ts) k ≡ kind_at ts (n + k)
 kind_dropped ts zero k = let z : k ≡ 0 + k = omega arith in ap (kind_at ts) z

@@ -67,8 +67,12 @@ initial_value : ex.HasDepth (codes "module m(output reg q = (a)); endmodule") 1
 unfolding is_in_range cut_text word_kind system_kind sign_kind signs keywords left_out_words system_names literal_bits is_signed_literal has_size literal_size number_bits
 initial_value = let f = found (codes "module m(output reg q = (a)); endmodule") refl refl refl refl in record { source = f.source; spelled = f.spelled; deep = refl }
 
+delay : ex.HasDepth (codes "module m; always @* q <= #((a)) b; endmodule") 2
+unfolding is_in_range cut_text word_kind system_kind sign_kind signs keywords left_out_words system_names literal_bits is_signed_literal has_size literal_size number_bits
+delay = let f = found (codes "module m; always @* q <= #((a)) b; endmodule") refl refl refl refl in record { source = f.source; spelled = f.spelled; deep = refl }
+
 pub depths_are : ex.DepthsAre
-depths_are = record { flat = flat; operator = operator; chain = chain; brackets = brackets; select = select; parts = parts; call = call; application = application; word = word; choice = choice; statement = statement; loop = loop; block = block; initial_block = initial_block; initial_value = initial_value }
+depths_are = record { flat = flat; operator = operator; chain = chain; brackets = brackets; select = select; parts = parts; call = call; application = application; word = word; choice = choice; statement = statement; loop = loop; block = block; initial_block = initial_block; initial_value = initial_value; delay = delay }
 
 empty : ex.StopsAt [] 0
 unfolding is_in_range cut_text word_kind system_kind sign_kind signs keywords left_out_words system_names
@@ -142,5 +146,17 @@ behind_variable : ex.StopsAt (codes "module m(output reg a = b, output c, d = e)
 unfolding is_in_range cut_text word_kind system_kind sign_kind signs keywords left_out_words system_names
 behind_variable = stops_at (codes "module m(output reg a = b, output c, d = e); endmodule") 13 (record { cut = refl; kept = refl; stopped = refl; left = refl })
 
+compared_delay : ex.StopsAt (ex.assign_text (codes "a <= #1 b")) 8
+unfolding is_in_range cut_text word_kind system_kind sign_kind signs keywords left_out_words system_names
+compared_delay = stops_at (ex.assign_text (codes "a <= #1 b")) 8 (record { cut = refl; kept = refl; stopped = refl; left = refl })
+
+negative_delay : ex.StopsAt (codes "module m; always @* q <= #-1 a; endmodule") 9
+unfolding is_in_range cut_text word_kind system_kind sign_kind signs keywords left_out_words system_names
+negative_delay = stops_at (codes "module m; always @* q <= #-1 a; endmodule") 9 (record { cut = refl; kept = refl; stopped = refl; left = refl })
+
+delay_alone : ex.StopsAt (codes "module m; always @* q <= #1; endmodule") 10
+unfolding is_in_range cut_text word_kind system_kind sign_kind signs keywords left_out_words system_names
+delay_alone = stops_at (codes "module m; always @* q <= #1; endmodule") 10 (record { cut = refl; kept = refl; stopped = refl; left = refl })
+
 pub faults_are : ex.FaultsAre
-faults_are = record { empty = empty; cut_off = cut_off; surplus_else = surplus_else; second_default = second_default; no_operand = no_operand; chained_targets = chained_targets; select_of_several = select_of_several; third_select = third_select; no_argument = no_argument; unnamed_block = unnamed_block; array_value = array_value; two_steps = two_steps; generated_function = generated_function; no_statement = no_statement; memory_value = memory_value; input_value = input_value; net_value = net_value; behind_variable = behind_variable }
+faults_are = record { empty = empty; cut_off = cut_off; surplus_else = surplus_else; second_default = second_default; no_operand = no_operand; chained_targets = chained_targets; select_of_several = select_of_several; third_select = third_select; no_argument = no_argument; unnamed_block = unnamed_block; array_value = array_value; two_steps = two_steps; generated_function = generated_function; no_statement = no_statement; memory_value = memory_value; input_value = input_value; net_value = net_value; behind_variable = behind_variable; compared_delay = compared_delay; negative_delay = negative_delay; delay_alone = delay_alone }

@@ -88,5 +88,9 @@ values : Spells ex.values_text ex.values_source
 unfolding is_in_range cut_text word_kind system_kind sign_kind signs keywords left_out_words system_names literal_bits is_signed_literal has_size literal_size number_bits
 values = (found ex.values_text refl refl refl refl).spelled
 
+delays : Spells ex.delays_text ex.delays_source
+unfolding is_in_range cut_text word_kind system_kind sign_kind signs keywords left_out_words system_names literal_bits is_signed_literal has_size literal_size number_bits
+delays = (found ex.delays_text refl refl refl refl).spelled
+
 pub trees_are : ex.TreesAre
-trees_are = record { thin = thin; dangling = dangling; dangling_generate = dangling_generate; begin_name = begin_name; block_name = block_name; empty = empty; default = default; header = header; declarations = declarations; generate = generate; selects = selects; region = region; loop = loop; initial = initial; values = values; block_variables = block_variables; function = function; declared_function = declared_function; words = words; integer_parameters = integer_parameters }
+trees_are = record { thin = thin; dangling = dangling; dangling_generate = dangling_generate; begin_name = begin_name; block_name = block_name; empty = empty; default = default; header = header; declarations = declarations; generate = generate; selects = selects; region = region; loop = loop; initial = initial; values = values; delays = delays; block_variables = block_variables; function = function; declared_function = declared_function; words = words; integer_parameters = integer_parameters }

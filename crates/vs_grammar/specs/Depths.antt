@@ -73,7 +73,7 @@ abbrev mutual
 abbrev mutual
   pub statement_depth : Statement → ℕ
   statement_depth (Empty place) = 1
-  statement_depth (Assignment target e blocking) = 1 + max (target_depth target) (expr_depth e)
+  statement_depth (Assignment target e blocking delay) = 1 + max (target_depth target) (max (expr_depth e) (option_depth expr_depth delay))
   statement_depth (If place c taken other) = 1 + max (expr_depth c) (max (statement_depth taken) (fallback_depth other))
   statement_depth (Case place kind subject arms other) = 1 + max (expr_depth subject) (max (arms_depth arms) (fallback_depth other))
   statement_depth (Sequence place scope parts) = 1 + max (option_depth scope_depth scope) (statements_depth parts)

@@ -57,8 +57,8 @@ dangling_source =
       statement =
           If 6 (read (codes "a") 8)
           (If 10 (read (codes "b") 12)
-          (Assignment (NamedTarget (name (codes "y") 14) Whole) (read (codes "c") 16) true)
-          (Otherwise (Assignment (NamedTarget (name (codes "y") 19) Whole) (read (codes "d") 21) true)))
+          (Assignment (NamedTarget (name (codes "y") 14) Whole) (read (codes "c") 16) true None)
+          (Otherwise (Assignment (NamedTarget (name (codes "y") 19) Whole) (read (codes "d") 21) true None)))
           NoFallback;
     }))
 
@@ -82,7 +82,7 @@ begin_name_source =
     module_of (AlwaysItem (record {
       place = 3;
       control = Star;
-      statement = Sequence 8 (Some (record { name = name (codes "s") 10; variables = [] })) (AndStatement (Assignment (NamedTarget (name (codes "y") 11) Whole) (read (codes "a") 13) false) (AndStatement (Empty 15) NoStatement));
+      statement = Sequence 8 (Some (record { name = name (codes "s") 10; variables = [] })) (AndStatement (Assignment (NamedTarget (name (codes "y") 11) Whole) (read (codes "a") 13) false None) (AndStatement (Empty 15) NoStatement));
     }))
 
 abbrev pub block_name_text : List ℕ
@@ -118,7 +118,7 @@ default_source =
       control = Star;
       statement =
           Case 6 Exact (read (codes "a") 8) (AndArm (read (codes "c") 15 ∷ read (codes "d") 17 ∷ []) (Empty 19) NoArm)
-          (Otherwise (Assignment (NamedTarget (name (codes "y") 11) Whole) (read (codes "b") 13) true));
+          (Otherwise (Assignment (NamedTarget (name (codes "y") 11) Whole) (read (codes "b") 13) true None));
     }))
 
 -- an unsized decimal number
@@ -283,7 +283,7 @@ selects_source =
           (AlwaysItem (record {
             place = 34;
             control = Star;
-            statement = Case 39 CaseZ (read (codes "a") 41) (AndArm (count 1 43 ∷ []) (Assignment (NamedTarget (name (codes "y") 45) Whole) (read (codes "b") 47) false) NoArm) NoFallback;
+            statement = Case 39 CaseZ (read (codes "a") 41) (AndArm (count 1 43 ∷ []) (Assignment (NamedTarget (name (codes "y") 45) Whole) (read (codes "b") 47) false None) NoArm) NoFallback;
           }))
           (AndItem (AlwaysItem (record { place = 50; control = Star; statement = Case 53 CaseX (read (codes "a") 55) NoArm (Otherwise (Empty 58)) })) NoItem));
     } ∷ [])
@@ -332,7 +332,7 @@ loop_source =
                   again = name (codes "i") 21;
                   next = Binary binary.Add (read (codes "i") 23) (count 1 25);
                 })
-                (Assignment (NamedTarget (name (codes "p") 27) Whole) (Binary binary.BitXor (read (codes "p") 29) (Named (name (codes "a") 31) (BitAt 32 (read (codes "i") 33)))) true);
+                (Assignment (NamedTarget (name (codes "p") 27) Whole) (Binary binary.BitXor (read (codes "p") 29) (Named (name (codes "a") 31) (BitAt 32 (read (codes "i") 33)))) true None);
           }))
           NoItem);
     } ∷ [])
@@ -362,9 +362,26 @@ initial_source =
                 ∷ [];
           }))
           (AndItem (SignalsItem (record { place = 17; kind = OutputReg; signed = false; range = None; names = record { name = name (codes "y") 19; addresses = None; value = Some (read (codes "a") 21) } ∷ [] }))
-          (AndItem (InitialItem (record { place = 23; statement = Assignment (NamedTarget (name (codes "q") 24) Whole) (read (codes "b") 26) false }))
+          (AndItem (InitialItem (record { place = 23; statement = Assignment (NamedTarget (name (codes "q") 24) Whole) (read (codes "b") 26) false None }))
           (AndItem (GenerateIf 28 (read (codes "c") 30) (Alone (InitialItem (record { place = 32; statement = Sequence 33 None NoStatement }))) NoBlockFallback) NoItem)));
     } ∷ [])
+
+-- the delays of updates, in their three forms (9.2.2, A.2.2.3)
+abbrev pub delays_text : List ℕ
+delays_text = codes "module m; always @(posedge clk) begin q <= #1 a; r <= #T b; s <= #(T + 2) c; end endmodule"
+
+abbrev pub delays_source : Source
+delays_source =
+    module_of (AlwaysItem (record {
+      place = 3;
+      control = Listed (record { edge = Posedge; name = name (codes "clk") 7 } ∷ []);
+      statement =
+          Sequence 9 None
+          (AndStatement (Assignment (NamedTarget (name (codes "q") 10) Whole) (read (codes "a") 14) false (Some (count 1 13)))
+          (AndStatement (Assignment (NamedTarget (name (codes "r") 16) Whole) (read (codes "b") 20) false (Some (read (codes "T") 19)))
+          (AndStatement (Assignment (NamedTarget (name (codes "s") 22) Whole) (read (codes "c") 30) false (Some (Binary binary.Add (read (codes "T") 26) (count 2 28))))
+          NoStatement)));
+    }))
 
 -- in a header only the names of an `output reg` have values, each of them (A.2.1.2)
 abbrev pub values_text : List ℕ
@@ -412,7 +429,7 @@ block_variables_source =
                 ∷ variables 20 IntegerType (name (codes "n") 21 ∷ [])
                 ∷ [];
           }))
-          (AndStatement (Assignment (NamedTarget (name (codes "t") 23) Whole) (read (codes "a") 25) true) NoStatement);
+          (AndStatement (Assignment (NamedTarget (name (codes "t") 23) Whole) (read (codes "a") 25) true None) NoStatement);
     }))
 
 -- a function with its inputs in brackets, and a call of it (10.4.1, 10.4.3)
@@ -439,7 +456,7 @@ function_source =
                 ∷ variables 22 IntegerType (name (codes "n") 24 ∷ [])
                 ∷ [];
             variables = variables 27 (RangeType false None) (name (codes "t") 28 ∷ []) ∷ variables 30 IntegerType (name (codes "k") 31 ∷ []) ∷ [];
-            statement = Assignment (NamedTarget (name (codes "f") 33) Whole) (read (codes "u") 35) true;
+            statement = Assignment (NamedTarget (name (codes "f") 33) Whole) (read (codes "u") 35) true None;
           }))
           (AndItem
           (AssignsItem 38 (record {
@@ -473,7 +490,7 @@ declared_function_source =
                 ∷ variables 22 (RangeType false None) (name (codes "w") 23 ∷ [])
                 ∷ [];
             variables = variables 19 IntegerType (name (codes "n") 20 ∷ []) ∷ [];
-            statement = Assignment (NamedTarget (name (codes "f") 25) Whole) (read (codes "u") 27) true;
+            statement = Assignment (NamedTarget (name (codes "f") 25) Whole) (read (codes "u") 27) true None;
           }))
           (AndItem
           (FunctionItem (record { place = 30; name = name (codes "g") 31; value_type = RangeType false None; inputs = []; variables = []; statement = Empty 33 }))
@@ -671,6 +688,7 @@ pub record DepthsAre : Type 0 where
   pub block : HasDepth dangling_generate_text 2
   pub initial_block : HasDepth (codes "module m; initial if (a) y = b; endmodule") 2
   pub initial_value : HasDepth (codes "module m(output reg q = (a)); endmodule") 1
+  pub delay : HasDepth (codes "module m; always @* q <= #((a)) b; endmodule") 2
 
 -- ---- texts that spell nothing
 
@@ -705,6 +723,10 @@ pub record FaultsAre : Type 0 where
   pub input_value : StopsAt (codes "module m(input a = b); endmodule") 5
   pub net_value : StopsAt (codes "module m; output y = a; endmodule") 5
   pub behind_variable : StopsAt (codes "module m(output reg a = b, output c, d = e); endmodule") 13
+  -- a delay behind the `<=` of an expression, an operator as a delay, and an assignment without a value
+  pub compared_delay : StopsAt (assign_text (codes "a <= #1 b")) 8
+  pub negative_delay : StopsAt (codes "module m; always @* q <= #-1 a; endmodule") 9
+  pub delay_alone : StopsAt (codes "module m; always @* q <= #1; endmodule") 10
 
 -- ---- all of them
 
@@ -724,6 +746,7 @@ pub record TreesAre : Type 0 where
   pub loop : Spells loop_text loop_source
   pub initial : Spells initial_text initial_source
   pub values : Spells values_text values_source
+  pub delays : Spells delays_text delays_source
   pub block_variables : Spells block_variables_text block_variables_source
   pub function : Spells function_text function_source
   pub declared_function : Spells declared_function_text declared_function_source

@@ -6,7 +6,7 @@ use Rattle.vs_grammar.specs.Kinds.{number_of}
 use Rattle.vs_grammar.specs.Grammars.{Phrase, Tree, Terminal, onto, opt, star}
 use Rattle.vs_grammar.specs.Grammars.Phrase.{seq, last}
 use Rattle.vs_grammar.specs.Grammars.Tree.{leaf, both, former, latter, without, within, start, grown, alone, behind, nested, named}
-use Rattle.vs_grammar.specs.Verilog.{◌⨾◌, ◌∣◌, verilog, t, r, phrase_of, separated, signed_range, sign_and_range, reg_type, value_behind, declared_name, valued_name, assignment, named_connection, number, slice_sign, unary_operator, product_operator, sum_operator, shift_operator, relation_operator, equality_operator, xor_operator, reg_item, wire_item, local_item, assign_item, always_item, initial_item, genvar_item, integer_item, overrides, instance_item, for_item, if_item, generate_case, port_item, input_declaration}
+use Rattle.vs_grammar.specs.Verilog.{◌⨾◌, ◌∣◌, verilog, t, r, phrase_of, separated, signed_range, sign_and_range, reg_type, value_behind, declared_name, valued_name, assignment, assignment_sign, delay_value, named_connection, number, slice_sign, unary_operator, product_operator, sum_operator, shift_operator, relation_operator, equality_operator, xor_operator, reg_item, wire_item, local_item, assign_item, always_item, initial_item, genvar_item, integer_item, overrides, instance_item, for_item, if_item, generate_case, port_item, input_declaration}
 use Rattle.vs_grammar.specs.Verilog.{Rule as rule}
 use Rattle.vs_grammar.specs.Trees.{Name, Literal, Expr, Exprs, Select, SliceKind, SystemFunction, UnaryOp, BinaryOp, RangeTree, ValueType, Variables, BlockScope, LoopHead, Target, Targets, CaseKind, Statement, Fallback, Statements, CaseArms, SignalKind, Declarator, Signals, Setting, Parameters, Assign, Edge, Event, EventControl, NamedConnection, Connections, Instance, Function, Item, GenerateBlock, BlockFallback, GenerateArms, Items, Header, Module, Source}
 use Rattle.vs_base.specs.declared.operators.UnaryOp.TheVariants as unary
@@ -108,7 +108,7 @@ case_kind (former o) = Exact
 case_kind (latter (former o)) = CaseZ
 case_kind (latter (latter o)) = CaseX
 
-abbrev pub is_blocking : D (t kind.Assign ∣ t kind.LessEqual) → Bool
+abbrev pub is_blocking : D assignment_sign → Bool
 is_blocking (former o) = true
 is_blocking (latter o) = false
 
@@ -300,6 +300,16 @@ module _ (bytes : ℕ → List ℕ) where
 
   -- ---- statements
 
+  -- the brackets round a delay are no part of its expression
+  abbrev pub delay_value_of : D delay_value → Expr
+  delay_value_of (former n) = Number (literal_of n)
+  delay_value_of (latter (former n)) = Named (name_of n) Whole
+  delay_value_of (latter (latter (both o (both e z)))) = expr_of e
+
+  abbrev pub delay_of : D assignment_sign → Option Expr
+  delay_of (former o) = None
+  delay_of (latter (both o d)) = option_of (behind_sign delay_value_of) d
+
   abbrev mutual
     pub target_of : D (r rule.Target) → Target
     target_of (named (former (both n s))) = NamedTarget (name_of n) (select_or_whole s)
@@ -316,7 +326,7 @@ module _ (bytes : ℕ → List ℕ) where
     statement_of (named (nested (latter (latter (former (both k (both o (both e (both c (both a z)))))))))) = Case (first_place k) (case_kind k) (expr_of e) (arms_of a) (default_of a)
     statement_of (named (nested (latter (latter (latter (former (both (leaf a) (both n (both s z))))))))) = Sequence a.place (option_of scope_of n) (statements_onto s NoStatement)
     statement_of (named (nested (latter (latter (latter (latter (former (both h s)))))))) = For (head_of h) (statement_of s)
-    statement_of (named (nested (latter (latter (latter (latter (latter (both x (both o (both e z)))))))))) = Assignment (target_of x) (expr_of e) (is_blocking o)
+    statement_of (named (nested (latter (latter (latter (latter (latter (both x (both o (both e z)))))))))) = Assignment (target_of x) (expr_of e) (is_blocking o) (delay_of o)
 
     pub else_of : D (last (number_of kind.KeywordElse) (r rule.Statement)) → Fallback
     else_of without = NoFallback

@@ -110,10 +110,15 @@ abbrev mutual
   AreTargets NoTarget = Unit {0}
   AreTargets (AndTarget target rest) = IsTarget target × AreTargets rest
 
+-- a delay stands behind `<=` alone (9.2.2, A.6.2)
+abbrev pub HasSign : Bool → Option Expr → Type 0
+HasSign true (Some delay) = ⊥
+HasSign _ _ = Unit {0}
+
 abbrev mutual
   pub IsStatement : Statement → Type 0
   IsStatement (Empty place) = Unit {0}
-  IsStatement (Assignment target e blocking) = IsTarget target × IsExpr e
+  IsStatement (Assignment target e blocking delay) = IsTarget target × IsExpr e × Given IsExpr delay × HasSign blocking delay
   IsStatement (If place c taken other) = IsExpr c × IsStatement taken × IsFallback other
   IsStatement (Case place kind subject arms other) = IsExpr subject × AreArms arms × IsFallback other × HasArm arms other
   IsStatement (Sequence place scope parts) = Given IsScope scope × AreStatements parts

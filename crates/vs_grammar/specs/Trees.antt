@@ -119,8 +119,8 @@ mutual
   pub data Statement : Type 0 where
     -- a lone `;`
     Empty : (place : ℕ) → Statement
-    -- `=` (9.2.1), or `<=` where it is not blocking (9.2.2)
-    Assignment : (target : Target) (e : Expr) (blocking : Bool) → Statement
+    -- `=` (9.2.1), or `<=` where it is not blocking (9.2.2), perhaps with a delay (9.7.7)
+    Assignment : (target : Target) (e : Expr) (blocking : Bool) (delay : Option Expr) → Statement
     -- 9.4
     If : (place : ℕ) (c : Expr) (taken : Statement) (other : Fallback) → Statement
     -- 9.5; the arms in the order of the text, and apart from them the default
@@ -311,7 +311,7 @@ target_place (Targeted place parts) = place
 
 abbrev pub statement_place : Statement → ℕ
 statement_place (Empty place) = place
-statement_place (Assignment target e blocking) = target_place target
+statement_place (Assignment target e blocking delay) = target_place target
 statement_place (If place c taken other) = place
 statement_place (Case place kind subject arms other) = place
 statement_place (Sequence place scope parts) = place

@@ -248,9 +248,21 @@ sequence = t kind.KeywordBegin ⨾ opt (r BlockScope) ⨾ star (r Statement) ⨾
 abbrev pub loop : Phrase
 loop = r LoopHead ⨾ r Statement
 
--- lval ('=' | '<=') expr ';'
+-- NUM | ID | '(' expr ')'
+abbrev pub delay_value : Phrase
+delay_value = number ∣ t kind.Identifier ∣ (t kind.OpenParen ⨾ r Expression ⨾ t kind.CloseParen)
+
+-- ['#' (NUM | ID | '(' expr ')')]
+abbrev pub delay : Phrase
+delay = opt (t kind.Hash ⨾ delay_value)
+
+-- '=' | '<=' [delay]
+abbrev pub assignment_sign : Phrase
+assignment_sign = t kind.Assign ∣ (t kind.LessEqual ⨾ delay)
+
+-- lval ('=' | '<=' [delay]) expr ';'
 abbrev pub assigned : Phrase
-assigned = r Target ⨾ (t kind.Assign ∣ t kind.LessEqual) ⨾ r Expression ⨾ t kind.Semicolon
+assigned = r Target ⨾ assignment_sign ⨾ r Expression ⨾ t kind.Semicolon
 
 -- 'begin' [':' ID] {gitem} 'end'
 abbrev pub block : Phrase
@@ -415,7 +427,7 @@ phrase_of BlockScope = t kind.Colon ⨾ t kind.Identifier ⨾ star (r Variables)
 phrase_of LoopHead =
     t kind.KeywordFor ⨾ t kind.OpenParen ⨾ r Setting ⨾ t kind.Semicolon ⨾ r Expression ⨾ t kind.Semicolon ⨾ r Setting ⨾ t kind.CloseParen
 -- ';' | 'if' '(' expr ')' stmt ['else' stmt] | ('case' | 'casez' | 'casex') '(' expr ')' cases 'endcase' | 'begin' [scope] {stmt} 'end'
--- | head stmt | lval ('=' | '<=') expr ';'; a level
+-- | head stmt | lval ('=' | '<=' [delay]) expr ';'; a level
 phrase_of Statement = level (t kind.Semicolon ∣ conditional (r Statement) ∣ case_statement ∣ sequence ∣ loop ∣ assigned)
 -- expr {',' expr} ':' stmt
 phrase_of CaseItem = case_item (r Statement)

@@ -3,7 +3,7 @@ use Rattle.std.specs.Prelude.{ℕ, List, [], codes}
 use Rattle.vs_refusal.specs.declared.names.BareName.{BareName}
 use Rattle.vs_refusal.specs.declared.names.BareName.TheVariants.{Usage, TooLong, NoTop, NoClock}
 use Rattle.vs_refusal.specs.declared.names.AtName.{AtName}
-use Rattle.vs_refusal.specs.declared.names.AtName.TheVariants.{NoToken, OpenComment, BadLiteral, TooManyTokens, BadDirective, UnknownMacro, MacroLoop, MacroArguments, MacroLimit, LeftOut, Syntax, TooDeep, NotConstant, UnknownConstant, DuplicateModule, UnknownModule, UnknownName, DuplicateName, BadRange, PortCount, UnknownPort, InstanceDepth, TooManyInstances, GenerateTurns, WrongKind, TooManyBits, TooManyProcesses, LoopTurns, LoopVariable, FunctionRule, Recursion, TooWide, Division, MixedAssign, FunctionLatch}
+use Rattle.vs_refusal.specs.declared.names.AtName.TheVariants.{NoToken, OpenComment, BadLiteral, TooManyTokens, BadDirective, UnknownMacro, MacroLoop, MacroArguments, MacroLimit, LeftOut, Syntax, TooDeep, NotConstant, UnknownConstant, DuplicateModule, UnknownModule, UnknownName, DuplicateName, BadRange, PortCount, UnknownPort, InstanceDepth, TooManyInstances, GenerateTurns, WrongKind, TooManyBits, TooManyProcesses, LoopTurns, LoopVariable, FunctionRule, Recursion, TooWide, Division, MixedAssign, FunctionLatch, Delay}
 use Rattle.vs_refusal.specs.declared.names.ProcessName.{ProcessName}
 use Rattle.vs_refusal.specs.declared.names.ProcessName.TheVariants.{InitialForm, ClockRead, NotTheClock, TimeZero, ResetForm}
 use Rattle.vs_refusal.specs.declared.names.LaneName.{LaneName}
@@ -61,6 +61,7 @@ at_sentence TooWide = codes "an expression or target is longer than 64 bits"
 at_sentence Division = codes "/, % or ** has an operand that names a signal"
 at_sentence MixedAssign = codes "<= stands in a combinational block"
 at_sentence FunctionLatch = codes "a function leaves a variable that it writes unassigned on some path"
+at_sentence Delay = codes "the delay of this <= isn't less than half a period of the clock"
 
 abbrev pub at_remedy : AtName → List ℕ
 at_remedy NoToken = codes "remove the character; at byte 0 it may be a byte-order mark"
@@ -98,6 +99,7 @@ at_remedy TooWide = codes "split it"
 at_remedy Division = codes "only constants are divided"
 at_remedy MixedAssign = codes "use ="
 at_remedy FunctionLatch = codes "assign it on every path, as by a default at the top"
+at_remedy Delay = codes "shorten it, or let --half be more than the delay"
 
 abbrev pub process_sentence : ProcessName → List ℕ
 process_sentence InitialForm = codes "an initial process reads a signal, calls a function, or has an index that isn't constant"

@@ -78,6 +78,7 @@ fn at_sentence(name: AtName) -> &'static str
         AtName::MixedAssign => "<= stands in a combinational block",
         AtName::FunctionLatch =>
             "a function leaves a variable that it writes unassigned on some path",
+        AtName::Delay => "the delay of this <= isn't less than half a period of the clock",
     }
 }
 
@@ -127,6 +128,7 @@ fn at_remedy(name: AtName) -> &'static str
         AtName::Division => "only constants are divided",
         AtName::MixedAssign => "use =",
         AtName::FunctionLatch => "assign it on every path, as by a default at the top",
+        AtName::Delay => "shorten it, or let --half be more than the delay",
     }
 }
 

@@ -62,7 +62,7 @@ same_state r before after did does h e = on_ok r h (λ k. k ∙ ap (λ (x : Effe
 
 pub assign_inside : BodyWritesWithin → (count : ℕ) (t : Target) (e : Expression) (s : State) → fits_target t ≡ true → is_fit e ≡ true → target_within count t ≡ true → names_within count e ≡ true → (b : ℕ) → is_written (assignment_writes t e s) b ≡ true → b < count
 assign_inside law count t e s target fit inside within b h =
-    let st = Assignment 0 t e true in
+    let st = Assignment 0 t e true 0 in
     let fits : fits_statement st ≡ true = and_both (fits_target t) (is_fit e) target fit in
     let there : statement_within count st ≡ true = and_both (target_within count t) (names_within count e) inside within in
     statement_bits_within count st b fits there (law st fits s b (inl h))

@@ -108,7 +108,7 @@ module _ (trees : EachProcess) (lawful : LawfulIsDesign) (a : Arena) (L : IsLawf
   both_made clocks true x events st s = refl
   both_made clocks false x events st s = refl
 
-  both_updates : (clocks : List ℕ) (c : Bool) (x : D.Process) (events : List D.Event) (st : T.Statement) (s : State) → N.updates (block_process d clocks c x events st) s ≡ (B.body st s).updates
+  both_updates : (clocks : List ℕ) (c : Bool) (x : D.Process) (events : List D.Event) (st : T.Statement) (s : State) → N.delayed (block_process d clocks c x events st) s ≡ (B.body st s).updates
   both_updates clocks true x events st s = refl
   both_updates clocks false x events st s = refl
 
@@ -118,8 +118,8 @@ module _ (trees : EachProcess) (lawful : LawfulIsDesign) (a : Arena) (L : IsLawf
       let y = D.Always q.at star es (statement_of a st) in
       sym (both_made clocks (D.is_clocked y) y es (statement_of a st) s) ∙ ap (λ (y : D.Process). N.made (process_of d clocks y) s) (block_x x star events st is h)
 
-  pub block_updates : (clocks : List ℕ) (x : D.Process) (s : State) (star : Bool) (events : List Event) (st : ℕ) → q.kind ≡ K.Block star events st → slice_get d.processes p ≡ Some x → (B.body (statement_of a st) s).updates ≡ N.updates (process_of d clocks x) s
+  pub block_updates : (clocks : List ℕ) (x : D.Process) (s : State) (star : Bool) (events : List Event) (st : ℕ) → q.kind ≡ K.Block star events st → slice_get d.processes p ≡ Some x → (B.body (statement_of a st) s).updates ≡ N.delayed (process_of d clocks x) s
   block_updates clocks x s star events st is h =
       let es = map (event_of (signal_at (arena_signals a))) events in
       let y = D.Always q.at star es (statement_of a st) in
-      sym (both_updates clocks (D.is_clocked y) y es (statement_of a st) s) ∙ ap (λ (y : D.Process). N.updates (process_of d clocks y) s) (block_x x star events st is h)
+      sym (both_updates clocks (D.is_clocked y) y es (statement_of a st) s) ∙ ap (λ (y : D.Process). N.delayed (process_of d clocks y) s) (block_x x star events st is h)

@@ -59,10 +59,10 @@ state_end tree ps k state all done so_far = ap (λ xs. write_all state (body (se
 -- ---- single statements
 
 -- a nonblocking assignment writes nothing at once
-pub waits : (blocking : Bool) (s : State) (ws : List Write) → blocking ≡ false → s ≡ write_all s (effect_of blocking ws).writes
+pub waits : (blocking : Bool) (delay : ℕ) (s : State) (ws : List Write) → blocking ≡ false → s ≡ write_all s (effect_of blocking delay ws).writes
 unfolding write_all
-waits true s ws h = cc
-waits false s ws h = refl
+waits true delay s ws h = cc
+waits false delay s ws h = refl
 
 -- and a statement that is empty changes nothing
 pub quiet : (st : Statement) (s : State) → st ≡ Empty → s ≡ write_all s (body st s).writes

@@ -69,7 +69,7 @@ module _ (m n : ℕ) (l : m ≤ n) where
   mutual
     pub wider_statement : (s : Statement) → statement_within m s ≡ true → statement_within n s ≡ true
     wider_statement Empty h = refl
-    wider_statement (Assignment place target e blocking) h =
+    wider_statement (Assignment place target e blocking delay) h =
         let p = and_both (target_within m target) (names_within m e) h in
         and_true _ _ (wider_target target p.0) (wider_names e p.1)
     wider_statement (Then first rest) h =

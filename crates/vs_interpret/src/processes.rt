@@ -54,7 +54,7 @@ pub fn run_block(
     requires fits { list_all fits_process (design_of shapes.now).processes ≡ true }
     requires values { D.bit_count (design_of shapes.now) ≤ length values.old }
     ensures effect { IfOk result (λ f. (clocks : List ℕ) (x : D.Process) → slice_get (design_of shapes.now).processes p ≡ Some x → D.is_assign x ≡ false
-        → (f.writes ≡ N.made (process_of (design_of shapes.now) clocks x) (state_of values.old)) × (f.updates ≡ N.updates (process_of (design_of shapes.now) clocks x) (state_of values.old))) }
+        → (f.writes ≡ N.made (process_of (design_of shapes.now) clocks x) (state_of values.old)) × (f.updates ≡ N.delayed (process_of (design_of shapes.now) clocks x) (state_of values.old))) }
     ensures state { (clocks : List ℕ) (x : D.Process) → slice_get (design_of shapes.now).processes p ≡ Some x → D.is_assign x ≡ false → OnOk result (state_of values.new ≡ N.write_all (state_of values.old) (N.made (process_of (design_of shapes.now) clocks x) (state_of values.old))) }
 {
     lawful_law();

@@ -77,13 +77,14 @@ impl Runner<'_> {
         last_of_each(self.alloc, all.as_slice())
     }
 
-    /// Executes an assignment: a blocking one writes at once, a nonblocking one leaves an update.
+    /// Executes an assignment: a blocking one writes at once, a nonblocking one leaves an update with its delay.
     #[cycle(evaluating)]
     fn assign(
         &self,
         target: u32,
         e: u32,
         blocking: bool,
+        delay: u32,
         values: &mut [Bit4],
         done: &mut Effect,
     ) -> Result<(), AllocError>
@@ -93,8 +94,8 @@ impl Runner<'_> {
         requires fit { is_fit (tree_of self.now.shapes.now e) ≡ true }
         requires target_within { target_within (length values.old) (target_tree (tree_of self.now.shapes.now target)) ≡ true }
         requires within { names_within (length values.old) (tree_of self.now.shapes.now e) ≡ true }
-        ensures effect { OnOk result (done.new ≡ B.both_effects done.old (B.effect_of blocking (B.assignment_writes (target_tree (tree_of self.now.shapes.now target)) (tree_of self.now.shapes.now e) (state_of values.old)))) }
-        ensures state { OnOk result (state_of values.new ≡ write_all (state_of values.old) (B.effect_of blocking (B.assignment_writes (target_tree (tree_of self.now.shapes.now target)) (tree_of self.now.shapes.now e) (state_of values.old))).writes) }
+        ensures effect { OnOk result (done.new ≡ B.both_effects done.old (B.effect_of blocking delay (B.assignment_writes (target_tree (tree_of self.now.shapes.now target)) (tree_of self.now.shapes.now e) (state_of values.old)))) }
+        ensures state { OnOk result (state_of values.new ≡ write_all (state_of values.old) (B.effect_of blocking delay (B.assignment_writes (target_tree (tree_of self.now.shapes.now target)) (tree_of self.now.shapes.now e) (state_of values.old))).writes) }
     {
         write_law();
         let update = self.assignment_writes(target, e, values)?;
@@ -102,7 +103,7 @@ impl Runner<'_> {
             write_all(values, update.as_slice());
             done.add_writes(update.as_slice())
         } else {
-            done.add_update(update)
+            done.add_update(delay, update)
         }
     }
 
@@ -127,7 +128,8 @@ impl Runner<'_> {
                 target,
                 expr,
                 blocking,
-            } => self.assign(*target, *expr, *blocking, values, done),
+                delay,
+            } => self.assign(*target, *expr, *blocking, *delay, values, done),
             Statement::If { c, yes, no } => {
                 let evaluator = Evaluator {
                     alloc: self.alloc,

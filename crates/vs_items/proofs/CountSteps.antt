@@ -18,6 +18,7 @@ use Rattle.vs_build.specs.Writable.{wire_assign, assign_process}
 use Rattle.vs_elaborated.specs.Environments.{Env, named}
 use Rattle.vs_elaborated.specs.Statements.{assignment}
 use Rattle.vs_elaborated.specs.Signals.{is_reg}
+use Rattle.vs_const.specs.Delays.{delay_of}
 use Rattle.vs_const.specs.Expressions.{typed}
 use Rattle.vs_elaborated.specs.Parameters.{Override}
 use Rattle.vs_elaborated.specs.Ports.{find_module}
@@ -148,7 +149,7 @@ declarator_counted env place kind n a None h at i Q k = cc
 declarator_counted env place kind n a (Some e) h at i Q k = of (is_reg kind) i
   where
     of : (b : Bool) → at ≡ (if b then n.place else place) → Q (if b then value_said env n e else wire_said env place n e).pieces
-    of true j = k (Initially n.place (assignment initial_body (tree.NamedTarget n tree.Whole) (named env) (typed e (named env) false) true).statement) refl (sym j)
+    of true j = k (Initially n.place (assignment initial_body (tree.NamedTarget n tree.Whole) (named env) (typed e (named env) false) true (delay_of (named env) None)).statement) refl (sym j)
     of false j = k (Own (assign_process place (wire_assign n e) (named env))) refl (sym j)
 
 pub declarator_uncounted : (env : Env) (place : ℕ) (kind : tree.SignalKind) (n : tree.Name) (a : Option tree.RangeTree) (v : Option tree.Expr) → is_some v ≡ false → (c : Count) (before : ℕ) (ps : List Piece) → IsCounted c before ps

@@ -16,7 +16,7 @@ module _ (e1 e2 : Env) (h : (name : List ℕ) → find_name e1.frames name ≡ f
   mutual
     pub heads_alike : (s : tree.Statement) (locals : List Local) → headed s locals e1 ≡ headed s locals e2
     heads_alike (tree.Empty place) locals = refl
-    heads_alike (tree.Assignment target e blocking) locals = refl
+    heads_alike (tree.Assignment target e blocking delay) locals = refl
     heads_alike (tree.If place c taken other) locals =
         both (headed taken locals e1) (headed_fallback other locals e1) (headed taken locals e2) (headed_fallback other locals e2) (heads_alike taken locals) (fallback_alike other locals)
     heads_alike (tree.Case place kind subject arms other) locals =

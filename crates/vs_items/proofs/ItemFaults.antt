@@ -1,9 +1,11 @@
 -- The faults of assigns and of declared values, one after the other.
-use Rattle.std.proofs.Common.{◌≡◌, ℕ, Bool, true, false, if◌then◌else◌, List, [], ◌∷◌, ◌++◌, flat_map, Option, Some, None, refl, ap, ◌∙◌}
+use Rattle.std.proofs.Common.{◌≡◌, ℕ, Bool, true, false, if◌then◌else◌, List, [], ◌∷◌, ◌++◌, flat_map, Option, Some, None, refl, ap, ◌∙◌, append-nil}
 use Rattle.vs_grammar.specs.Trees as tree
 use Rattle.vs_const.specs.declared.faults.Fault.{Fault}
-use Rattle.vs_elaborated.specs.Environments.{Env}
+use Rattle.vs_const.specs.Expressions.{typed}
+use Rattle.vs_elaborated.specs.Environments.{Env, named}
 use Rattle.vs_elaborated.specs.Signals.{is_reg}
+use Rattle.vs_elaborated.specs.Targets.{target_base}
 use Rattle.vs_elaborated.specs.Surveys.{assign_said, value_said, wire_said, declarator_said, signals_said}
 use Rattle.vs_elaborated.specs.Pieces.{Said, all_said}
 use Rattle.vs_items.specs.Items.{assign_faults, value_faults, declarator_faults}
@@ -17,7 +19,7 @@ pub assigns_have : (env : Env) (place : ℕ) (xs : List tree.Assign) → (all_sa
 assigns_have env place xs = all_have (assign_said env place) (assign_faults env) (λ a. refl) xs
 
 either_has : (env : Env) (place : ℕ) (variable : Bool) (name : tree.Name) (e : tree.Expr) → (if variable then value_said env name e else wire_said env place name e).faults ≡ value_faults env variable name (Some e)
-either_has env place true name e = refl
+either_has env place true name e = ap (λ fs. (target_base true name.place false (named env name.bytes)).faults ++ fs) (append-nil (typed e (named env) false).faults)
 either_has env place false name e = refl
 
 value_has : (env : Env) (place : ℕ) (kind : tree.SignalKind) (name : tree.Name) (a : Option tree.RangeTree) (v : Option tree.Expr)

@@ -30,9 +30,11 @@ abbrev pub is_open : TokenKind → Bool
 is_open kind.OpenParen = true
 is_open _ = false
 
-abbrev pub is_identifier : Option TokenKind → Bool
-is_identifier (Some kind.Identifier) = true
-is_identifier _ = false
+-- a `#` may stand behind it: an identifier, as before the parameters of instances, or `<=`, as before a delay
+abbrev pub takes_hash : Option TokenKind → Bool
+takes_hash (Some kind.Identifier) = true
+takes_hash (Some kind.LessEqual) = true
+takes_hash _ = false
 
 abbrev pub is_star : Option TokenKind → Bool
 is_star (Some kind.Star) = true
@@ -42,10 +44,10 @@ abbrev pub is_close : Option TokenKind → Bool
 is_close (Some kind.CloseParen) = true
 is_close _ = false
 
--- A token of this kind is left out between these: also a `#` where no identifier stands before it, as in a delay, and a `(` where a `*`
--- that no `)` follows comes next, as in an attribute.
+-- A token of this kind is left out between these: also a `#` where neither an identifier nor `<=` stands before it, as in the delay of a statement,
+-- and a `(` where a `*` that no `)` follows comes next, as in an attribute.
 abbrev pub is_left_out_between : Option TokenKind → TokenKind → Option TokenKind → Option TokenKind → Bool
-is_left_out_between before k next after = is_left_out_kind k || (is_hash k && not (is_identifier before)) || (is_open k && is_star next && not (is_close after))
+is_left_out_between before k next after = is_left_out_kind k || (is_hash k && not (takes_hash before)) || (is_open k && is_star next && not (is_close after))
 
 -- token n is left out
 abbrev pub is_left_out : List Token → ℕ → Bool

@@ -50,10 +50,12 @@ fn is_open(kind: TokenKind) -> bool
     matches!(kind, TokenKind::OpenParen)
 }
 
-fn is_identifier(kind: Option<TokenKind>) -> bool
-    ensures { result ≡ spec.is_identifier kind }
+/// Whether a `#` may stand behind a token of this kind: behind an identifier, as before the parameters of instances, and behind
+/// `<=`, as before a delay.
+fn takes_hash(kind: Option<TokenKind>) -> bool
+    ensures { result ≡ spec.takes_hash kind }
 {
-    matches!(kind, Some(TokenKind::Identifier))
+    matches!(kind, Some(TokenKind::Identifier | TokenKind::LessEqual))
 }
 
 fn is_star(kind: Option<TokenKind>) -> bool
@@ -68,14 +70,14 @@ fn is_close(kind: Option<TokenKind>) -> bool
     matches!(kind, Some(TokenKind::CloseParen))
 }
 
-/// Whether token n is left out: its kind is, or it is a `#` with no identifier before it, or a `(` before a `*` with no `)`
-/// behind that.
+/// Whether token n is left out: its kind is, or it is a `#` with neither an identifier nor `<=` before it, or a `(` before a `*`
+/// with no `)` behind that.
 pub fn is_left_out(tokens: &[Token], n: usize) -> bool
     requires { n < length tokens.now }
     ensures { result ≡ spec.is_left_out tokens.now n }
 {
     let kind = tokens[n].kind;
-    let delay = is_hash(kind) && !is_identifier(kind_before(tokens, n));
+    let delay = is_hash(kind) && !takes_hash(kind_before(tokens, n));
     let attribute = is_open(kind)
         && is_star(kind_at(tokens, n + 1))
         && !is_close(kind_at(tokens, n + 2));

@@ -58,7 +58,7 @@ none_if false these c h = h
 mutual
   pub blocking_among : (st : Statement) → AreAmong (blocking_bits st) (statement_bits st)
   blocking_among Empty = λ b h. h
-  blocking_among (Assignment place target e blocking) = none_at_all blocking (target_bits target)
+  blocking_among (Assignment place target e blocking delay) = none_at_all blocking (target_bits target)
   blocking_among (Then first rest) = both_among (blocking_bits first) (blocking_bits rest) (statement_bits first) (statement_bits rest) (blocking_among first) (blocking_among rest)
   blocking_among (If c taken other) = both_among (blocking_bits taken) (blocking_bits other) (statement_bits taken) (statement_bits other) (blocking_among taken) (blocking_among other)
   blocking_among (Case kind subject arms) = arms_blocking_among arms
@@ -70,7 +70,7 @@ mutual
 mutual
   pub nonblocking_among : (st : Statement) → AreAmong (nonblocking_bits st) (statement_bits st)
   nonblocking_among Empty = λ b h. h
-  nonblocking_among (Assignment place target e blocking) = none_if blocking (target_bits target)
+  nonblocking_among (Assignment place target e blocking delay) = none_if blocking (target_bits target)
   nonblocking_among (Then first rest) = both_among (nonblocking_bits first) (nonblocking_bits rest) (statement_bits first) (statement_bits rest) (nonblocking_among first) (nonblocking_among rest)
   nonblocking_among (If c taken other) = both_among (nonblocking_bits taken) (nonblocking_bits other) (statement_bits taken) (statement_bits other) (nonblocking_among taken) (nonblocking_among other)
   nonblocking_among (Case kind subject arms) = arms_nonblocking_among arms
@@ -96,8 +96,8 @@ none_of_none xs ys h k = ap (λ (zs : List ℕ). zs ++ ys) h ∙ k
 mutual
   pub no_nonblocking : (st : Statement) → mixed_in false st ≡ [] → nonblocking_bits st ≡ []
   no_nonblocking Empty h = refl
-  no_nonblocking (Assignment place target e true) h = refl
-  no_nonblocking (Assignment place target e false) h = cc
+  no_nonblocking (Assignment place target e true delay) h = refl
+  no_nonblocking (Assignment place target e false delay) h = cc
   no_nonblocking (Then first rest) h = none_of_none (nonblocking_bits first) (nonblocking_bits rest) (no_nonblocking first (first_none (mixed_in false first) (mixed_in false rest) h)) (no_nonblocking rest (rest_none (mixed_in false first) (mixed_in false rest) h))
   no_nonblocking (If c taken other) h = none_of_none (nonblocking_bits taken) (nonblocking_bits other) (no_nonblocking taken (first_none (mixed_in false taken) (mixed_in false other) h)) (no_nonblocking other (rest_none (mixed_in false taken) (mixed_in false other) h))
   no_nonblocking (Case kind subject arms) h = no_nonblocking_in arms h

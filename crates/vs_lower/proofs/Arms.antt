@@ -6,6 +6,7 @@ use Rattle.vs_four.specs.Logic.{BitList}
 use Rattle.vs_net.specs.Network as N
 use Rattle.vs_code.specs.Calls.{Call, State, AreCalled}
 use Rattle.vs_values.specs.Added.{IsEnv, Holds}
+use Rattle.vs_lower.specs.InText.{in_text}
 use Rattle.vs_lower.specs.Done.{IsDone, IsCondition}
 use Rattle.vs_values.proofs.Adding.{called_parts, holds_after, vector_stays, added_more, env_more}
 use Rattle.vs_lower.proofs.Joining.{IsBranched, IsForked, neither}
@@ -34,7 +35,7 @@ branched_after now later tv sv m cond cc tc n cost taken once1 updated1 most ct 
     let e1 = env_more now n2 n c.added.grown e0 in
     let f1 = env_more later n2 n c.added.grown f0 in
     let no = N.write_all state (other state).writes in
-    let lo = N.write_all ahead (N.flatten (other state).updates) in
+    let lo = N.write_all ahead (in_text (other state)) in
     record {
       cond_is = vector_stays ct n s1 last tc t.added.fresh parts.2 c.below ∙ c.values s0 s1 state h0 g0 firsts.2;
       now_t = t.now_values s1 last state ahead h1 k1 refl parts.2;

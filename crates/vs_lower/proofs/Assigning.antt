@@ -74,14 +74,14 @@ written_later now m n tv x y l new (inr (inl c)) = inr (All-contains (λ slot. I
 written_later now m n tv x y l new (inr (inr h)) = inr (inl (inr (omega arith)))
 
 -- a blocking one
-pub done_assignment_now : (now later : List ℕ) (m : ℕ) (target : Target) (e : Expression) (c : List Call) (tv : List ℕ) (tis : List (List ℕ)) (n most : ℕ) (d : List Call) (env : List ℕ) (p more : ℕ)
+pub done_assignment_now : (delay : ℕ) (now later : List ℕ) (m : ℕ) (target : Target) (e : Expression) (c : List Call) (tv : List ℕ) (tis : List (List ℕ)) (n most : ℕ) (d : List Call) (env : List ℕ) (p more : ℕ)
     → IsEnv now m → IsEnv later m
     → AreValues now m c (tv ∷ tis) n most (λ state. assigned_value e (target_width target) state ∷ index_values target state)
     → All (IsNew m) tv
     → IsWritten now n target tis tv more d env p
-    → IsDone now later [] (λ state. []) m (λ state. effect_of true (assignment_writes target e state)) (target_bits target) [] (most + more) (c ++ d) env later p
+    → IsDone now later [] (λ state. []) m (λ state. effect_of true delay (assignment_writes target e state)) (target_bits target) [] (most + more) (c ++ d) env later p
 unfolding N.write_all N.flatten
-done_assignment_now now later m target e c tv tis n most d env p more en el a new w = record {
+done_assignment_now delay now later m target e c tv tis n most d env p more en el a new w = record {
   added = added_more m c n most d p more a.added w.added;
   now_env = w.is_env;
   later_env = env_more later m p (omega (arith, a.added.grown, w.added.grown)) el;
@@ -104,14 +104,14 @@ done_assignment_now now later m target e c tv tis n most d env p more en el a ne
 }
 
 -- a nonblocking one
-pub done_assignment_later : (now later : List ℕ) (m : ℕ) (target : Target) (e : Expression) (c : List Call) (tv : List ℕ) (tis : List (List ℕ)) (n most : ℕ) (d : List Call) (env : List ℕ) (p more : ℕ)
+pub done_assignment_later : (delay : ℕ) (now later : List ℕ) (m : ℕ) (target : Target) (e : Expression) (c : List Call) (tv : List ℕ) (tis : List (List ℕ)) (n most : ℕ) (d : List Call) (env : List ℕ) (p more : ℕ)
     → IsEnv now m → IsEnv later m
     → AreValues now m c (tv ∷ tis) n most (λ state. assigned_value e (target_width target) state ∷ index_values target state)
     → All (λ slot. IsNew m slot ⊎ ((b : ℕ) × (b < length now) × (slot ≡ slice_index now b))) tv
     → IsWritten later n target tis tv more d env p
-    → IsDone now later [] (λ state. []) m (λ state. effect_of false (assignment_writes target e state)) [] (target_bits target) (most + more) (c ++ d) now env p
+    → IsDone now later [] (λ state. []) m (λ state. effect_of false delay (assignment_writes target e state)) [] (target_bits target) (most + more) (c ++ d) now env p
 unfolding N.write_all N.flatten
-done_assignment_later now later m target e c tv tis n most d env p more en el a new w = record {
+done_assignment_later delay now later m target e c tv tis n most d env p more en el a new w = record {
   added = added_more m c n most d p more a.added w.added;
   now_env = env_more now m p (omega (arith, a.added.grown, w.added.grown)) en;
   later_env = w.is_env;

@@ -24,8 +24,8 @@ own_unless_arm : (count : ℕ) (now : List ℕ) (bar : ℕ) (subject : List ℕ)
 own_unless_arm count now bar subject code w items st r = subst (λ (k : ℕ). IsUnlessArmReady k now bar subject code w items st) (sym r.now_bits) r
 
 -- an assignment's place in the text is nothing to its lowering
-pub any_place : (bits p q : ℕ) (now : List ℕ) (bar : ℕ) (code : Coding) (t : Target) (e : Expression) (blocking : Bool) → IsUnlessReady bits now bar code (Assignment p t e blocking) → IsUnlessReady bits now bar code (Assignment q t e blocking)
-any_place bits p q now bar code t e blocking r = record {
+pub any_place : (bits p q : ℕ) (now : List ℕ) (bar : ℕ) (code : Coding) (t : Target) (e : Expression) (blocking : Bool) (delay : ℕ) → IsUnlessReady bits now bar code (Assignment p t e blocking delay) → IsUnlessReady bits now bar code (Assignment q t e blocking delay)
+any_place bits p q now bar code t e blocking delay r = record {
   now_env = r.now_env;
   now_bits = r.now_bits;
   bar_below = r.bar_below;

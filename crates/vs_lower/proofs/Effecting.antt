@@ -8,8 +8,9 @@ use Rattle.vs_design.specs.Footprints.{contains}
 use Rattle.vs_design.specs.Races.{blocking_bits, arms_blocking, nonblocking_bits, arms_nonblocking}
 use Rattle.vs_design.specs.Statements.{CaseKind, Statement, Empty, Assignment, Then, If, Case, Arms, Arm, Default}
 use Rattle.vs_design.specs.TreeLaws.{BodyWritesWithin}
+use Rattle.vs_lower.specs.InText.{in_text}
 use Rattle.vs_lower.proofs.Apart.{left_among, right_among}
-use Rattle.vs_lower.proofs.Placing.{flatten-append}
+use Rattle.vs_lower.proofs.Placing.{text-append}
 use Rattle.vs_values.proofs.Values.{both_true}
 
 -- ---- writes one after the other
@@ -30,7 +31,7 @@ of_either false q f g h = g h
 -- what an effect writes at once is among the first bits, and what it updates among the others
 pub record IsEffectWithin (e : N.Effect) (at_once updated : List ℕ) : Type 0 where
   pub writes : (b : ℕ) → N.is_written e.writes b ≡ true → contains at_once b ≡ true
-  pub updates : (b : ℕ) → N.is_written (N.flatten e.updates) b ≡ true → contains updated b ≡ true
+  pub updates : (b : ℕ) → N.is_written (in_text e) b ≡ true → contains updated b ≡ true
 
 either_within : (q : Bool) (x y : N.Effect) (xs ys us vs : List ℕ) → IsEffectWithin x xs us → IsEffectWithin y ys vs → IsEffectWithin (if q then x else y) (xs ++ ys) (us ++ vs)
 either_within true x y xs ys us vs h k = record { writes = λ b w. left_among xs ys (xs ++ ys) (λ c e. e) b (h.writes b w); updates = λ b w. left_among us vs (us ++ vs) (λ c e. e) b (h.updates b w) }
@@ -47,8 +48,8 @@ no_updates b h = nothing_written b h
 mutual
   pub effect_within : BodyWritesWithin → (st : Statement) → fits_statement st ≡ true → (s : N.State) → IsEffectWithin (body st s) (blocking_bits st) (nonblocking_bits st)
   effect_within law Empty fits s = record { writes = λ b h. absurd (nothing_written b h); updates = λ b h. absurd (no_updates b h) }
-  effect_within law (Assignment place target e true) fits s = record { writes = λ b h. law (Assignment place target e true) fits s b (inl h); updates = λ b h. absurd (no_updates b h) }
-  effect_within law (Assignment place target e false) fits s = record { writes = λ b h. absurd (nothing_written b h); updates = λ b h. law (Assignment place target e false) fits s b (inr h) }
+  effect_within law (Assignment place target e true delay) fits s = record { writes = λ b h. law (Assignment place target e true delay) fits s b (inl h); updates = λ b h. absurd (no_updates b h) }
+  effect_within law (Assignment place target e false delay) fits s = record { writes = λ b h. absurd (nothing_written b h); updates = λ b h. law (Assignment place target e false delay) fits s b (inr h) }
   effect_within law (Then first rest) fits s =
       let f = both_true (fits_statement first) (fits_statement rest) fits in
       let x = effect_within law first f.0 s in
@@ -59,10 +60,10 @@ mutual
             (λ k. left_among (blocking_bits first) (blocking_bits rest) (blocking_bits first ++ blocking_bits rest) (λ c q. q) b (x.writes b k))
             (λ k. right_among (blocking_bits first) (blocking_bits rest) (blocking_bits first ++ blocking_bits rest) (λ c q. q) b (y.writes b k))
             (sym (written-append (body first s).writes (body rest t).writes b) ∙ h);
-        updates = λ b h. of_either (N.is_written (N.flatten (body first s).updates) b) (N.is_written (N.flatten (body rest t).updates) b)
+        updates = λ b h. of_either (N.is_written (in_text (body first s)) b) (N.is_written (in_text (body rest t)) b)
             (λ k. left_among (nonblocking_bits first) (nonblocking_bits rest) (nonblocking_bits first ++ nonblocking_bits rest) (λ c q. q) b (x.updates b k))
             (λ k. right_among (nonblocking_bits first) (nonblocking_bits rest) (nonblocking_bits first ++ nonblocking_bits rest) (λ c q. q) b (y.updates b k))
-            (sym (ap (λ (ws : List N.Write). N.is_written ws b) (flatten-append (body first s).updates (body rest t).updates) ∙ written-append (N.flatten (body first s).updates) (N.flatten (body rest t).updates) b) ∙ h);
+            (sym (ap (λ (ws : List N.Write). N.is_written ws b) (text-append (body first s).updates (body rest t).updates) ∙ written-append (in_text (body first s)) (in_text (body rest t)) b) ∙ h);
       }
   effect_within law (If c taken other) fits s =
       let f = both_true (is_fit c && fits_statement taken) (fits_statement other) fits in

@@ -96,7 +96,7 @@ assign_ready count code t e r = record {
 }
 
 abbrev pub AddsUpdate : ℕ → Coding → Coding → Target → Expression → List ℕ → List ℕ → Type 0
-AddsUpdate count old new t e now1 ahead1 = AddsRun (homes count) (homes count) old new (λ state. effect_of (not true) (assignment_writes t e state)) [] (target_bits t) (assign_most true t e) now1 ahead1
+AddsUpdate count old new t e now1 ahead1 = AddsRun (homes count) (homes count) old new (λ state. effect_of (not true) 0 (assignment_writes t e state)) [] (target_bits t) (assign_most true t e) now1 ahead1
 
 pub record CanGoHome (count : ℕ) (bits env : List ℕ) (code : Coding) : Type 0 where
   pub temps : 4 + count ≤ 2 ^ 32
@@ -148,7 +148,7 @@ adds_continuous l place target_place port c0 c1 c2 t e now1 ahead1 bits first r 
     let inside = all_in l.bits bits (λ b h. r.inside b (sym (same b) ∙ h)) in
     let inside_js : All (λ b. b < l.bits) js = bits_within (λ b. b < l.bits) bits (picked (homes l.bits) bits) ahead1 inside in
     let homes_are : home_copies l.bits bits ahead1 ≡ copies (picked ahead1 js) (map home js) = ap (copies (picked ahead1 js)) (picked_homes l.bits js inside_js) in
-    let done = subst (λ (m : ℕ). IsDone (homes l.bits) (homes l.bits) [] (λ state. []) m (λ state. effect_of false (assignment_writes t e state)) [] (target_bits t) (assign_most true t e) d.calls now1 ahead1 c1.next) (sym first) d.done in
+    let done = subst (λ (m : ℕ). IsDone (homes l.bits) (homes l.bits) [] (λ state. []) m (λ state. effect_of false 0 (assignment_writes t e state)) [] (target_bits t) (assign_most true t e) d.calls now1 ahead1 c1.next) (sym first) d.done in
     let most = moved_most l.bits t bits ahead1 once same r.fixed in
     record {
       calls = d.calls ++ copies (picked ahead1 js) (map home js);

@@ -13,10 +13,11 @@ use Rattle.vs_code.specs.declared.kernels.AnyKernel.TheVariants.{Select}
 use Rattle.vs_code.specs.Calls.{Call, State, IsCall, IsCalled, AreCalled, call_cost}
 use Rattle.vs_values.specs.Added.{AreAdded, IsEnv, Holds, AreValues, fresh_call, IsNew}
 use Rattle.vs_values.specs.Environments.{placed}
+use Rattle.vs_lower.specs.InText.{in_text}
 use Rattle.vs_lower.specs.Done.{IsDone, IsCondition}
 use Rattle.vs_values.proofs.Lists.{range_below, range_from}
 use Rattle.vs_values.proofs.Adding.{called_parts, one_called, holds_after, vector_stays, added_none, added_more, added_call, env_more}
-use Rattle.vs_lower.proofs.Placing.{by_test, write_all-append, flatten-append, placed_all, placed_holds, placed_other, placed_from, written_as}
+use Rattle.vs_lower.proofs.Placing.{by_test, write_all-append, text-append, placed_all, placed_holds, placed_other, placed_from, written_as}
 use Rattle.vs_values.proofs.Environments.{placed_length}
 
 -- ---- no statement
@@ -98,15 +99,15 @@ done_then now later m run at_once updated most c now1 later1 n next_run next_onc
       let first = a.now_values before parts.0 state ahead h k refl parts.1 in
       let first_later = a.later_values before parts.0 state ahead h k refl parts.1 in
       subst (λ (s : N.State). Holds now2 after s) (sym (write_all-append (run state).writes (next_run (N.write_all state (run state).writes)).writes state))
-      (b.now_values parts.0 after (N.write_all state (run state).writes) (N.write_all ahead (N.flatten (run state).updates)) first first_later refl parts.2);
+      (b.now_values parts.0 after (N.write_all state (run state).writes) (N.write_all ahead (in_text (run state))) first first_later refl parts.2);
   later_values = λ before after state ahead h k g called.
       let parts = called_parts c d before after called in
       let first = a.now_values before parts.0 state ahead h k refl parts.1 in
       let first_later = a.later_values before parts.0 state ahead h k refl parts.1 in
       let rest = (next_run (N.write_all state (run state).writes)).updates in
       subst (λ (s : N.State). Holds later2 after s)
-      (sym (ap (N.write_all ahead) (flatten-append (run state).updates rest) ∙ write_all-append (N.flatten (run state).updates) (N.flatten rest) ahead))
-      (b.later_values parts.0 after (N.write_all state (run state).writes) (N.write_all ahead (N.flatten (run state).updates)) first first_later refl parts.2);
+      (sym (ap (N.write_all ahead) (text-append (run state).updates rest) ∙ write_all-append (in_text (run state)) (N.flatten (N.undelayed rest)) ahead))
+      (b.later_values parts.0 after (N.write_all state (run state).writes) (N.write_all ahead (in_text (run state))) first first_later refl parts.2);
 }
 
 -- ---- two branches
@@ -137,8 +138,8 @@ pub record IsBranched (now later : List ℕ) (cond : N.State → BitList) (tc : 
   pub cond_is : map last tc ≡ cond state
   pub now_t : Holds now1 last (N.write_all state (taken state).writes)
   pub now_o : Holds now2 last (N.write_all state (other state).writes)
-  pub later_t : Holds later1 last (N.write_all ahead (N.flatten (taken state).updates))
-  pub later_o : Holds later2 last (N.write_all ahead (N.flatten (other state).updates))
+  pub later_t : Holds later1 last (N.write_all ahead (in_text (taken state)))
+  pub later_o : Holds later2 last (N.write_all ahead (in_text (other state)))
   pub now_at : Holds now last state
   pub later_at : Holds later last ahead
 
@@ -173,7 +174,7 @@ branched now later tv sv m cond cc tc n cost taken once1 updated1 most ct now1 l
           ∙ vector_stays ct n s0 s1 tc t.added.fresh firsts.2 tc_below
           ∙ c.values before s0 state h g firsts.1;
       now_t = holds_after now1 co n1 s1 last (N.write_all state (taken state).writes) t.now_env o.added.fresh parts.2 (t.now_values s0 s1 state ahead h0 k0 refl firsts.2);
-      later_t = holds_after later1 co n1 s1 last (N.write_all ahead (N.flatten (taken state).updates)) t.later_env o.added.fresh parts.2 (t.later_values s0 s1 state ahead h0 k0 refl firsts.2);
+      later_t = holds_after later1 co n1 s1 last (N.write_all ahead (in_text (taken state))) t.later_env o.added.fresh parts.2 (t.later_values s0 s1 state ahead h0 k0 refl firsts.2);
       now_o = o.now_values s1 last state ahead h1 k1 g1 parts.2;
       later_o = o.later_values s1 last state ahead h1 k1 g1 parts.2;
       now_at = holds_after now co n1 s1 last state e1 o.added.fresh parts.2 h1;
@@ -219,7 +220,7 @@ pub taken_writes : (b : Bool) (x y : N.Effect) (s : N.State) → N.write_all s (
 taken_writes true x y s = refl
 taken_writes false x y s = refl
 
-pub taken_updates : (b : Bool) (x y : N.Effect) (s : N.State) → N.write_all s (N.flatten (if b then x else y).updates) ≡ (if b then N.write_all s (N.flatten x.updates) else N.write_all s (N.flatten y.updates))
+pub taken_updates : (b : Bool) (x y : N.Effect) (s : N.State) → N.write_all s (in_text (if b then x else y)) ≡ (if b then N.write_all s (in_text x) else N.write_all s (in_text y))
 taken_updates true x y s = refl
 taken_updates false x y s = refl
 
@@ -361,8 +362,8 @@ done_forked now later tv sv m cond tc taken now1 later1 other now2 later2 at_onc
           let parts = called_parts (calls ++ now_calls) later_calls before after called in
           let firsts = called_parts calls now_calls before parts.0 parts.1 in
           let w = f.branched before firsts.0 state ahead h k g firsts.1 in
-          let t1 = N.write_all ahead (N.flatten (taken state).updates) in
-          let t2 = N.write_all ahead (N.flatten (other state).updates) in
+          let t1 = N.write_all ahead (in_text (taken state)) in
+          let t2 = N.write_all ahead (in_text (other state)) in
           subst (λ (s : N.State). Holds later3 after s) (sym (taken_updates (is_one (truth (cond state))) (taken state) (other state) ahead))
           (b.values parts.0 after (cond state) t1 t2
           (holds_after later1 now_calls n firsts.0 parts.0 t1 f.later1_env a.added.fresh firsts.2 w.later_t)

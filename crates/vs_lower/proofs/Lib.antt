@@ -38,6 +38,9 @@ pub mod Naming
 pub mod Stating
 pub mod Effecting
 pub mod Blocking
+pub mod Sorting
+pub mod Ascending
+pub mod Delaying
 pub mod Nexting
 pub mod Accepting
 pub mod Resetting

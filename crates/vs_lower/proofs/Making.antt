@@ -14,7 +14,7 @@ use Rattle.vs_lower.specs.Unless.{AddsMade, AddsUnlessWrite, IsNoteReady, IsTake
 use Rattle.vs_values.proofs.Adding.{added_more, added_none, added_within, called_parts}
 use Rattle.vs_values.proofs.Readying.{stores_of, two_added}
 use Rattle.vs_lower.proofs.Noting.{all_by, notes_more, notes_stay}
-use Rattle.vs_lower.proofs.Placing.{write_all-append}
+use Rattle.vs_lower.proofs.Placing.{text-append, write_all-append}
 
 -- what is left to be made
 pub record AreMakeReady (count : ℕ) (env : List ℕ) (code : Coding) (notes : List Note) : Type 0 where
@@ -57,7 +57,7 @@ rest_ready count env env1 code code1 n ns r w =
     }
 
 pub made_none : (count : ℕ) (env : List ℕ) (code : Coding) → AreMakeReady count env code [] → AddsMade env env code code []
-unfolding N.write_all
+unfolding N.write_all N.flatten
 made_none count env code r = record {
   calls = [];
   is = sym (append-nil code.calls);
@@ -67,8 +67,8 @@ made_none count env code r = record {
     same_length = refl;
     kept = λ b h. refl;
     from = λ now first l h k. h;
-    values = λ before after base ws h noted called.
-        subst (λ (s : State). Holds env s (N.write_all base ws)) (sym (fun_ext called)) (subst (λ (xs : List N.Write). Holds env before (N.write_all base xs)) (sym noted) h);
+    values = λ before after base ds h noted called.
+        subst (λ (s : State). Holds env s (N.write_all base (N.flatten (N.undelayed ds)))) (sym (fun_ext called)) (subst (λ (xs : List N.Delayed). Holds env before (N.write_all base (N.flatten (N.undelayed xs)))) (sym noted) h);
   };
 }
 
@@ -93,7 +93,7 @@ made_then count env env1 env2 code code1 code2 n ns r w m =
             e.from now first (omega (arith, l, d.added.grown))
             (all_by P env1 (λ b m. come now first l h (All-head (λ x. All P x.value) n ns k) b (omega (arith, m, d.same_length)) (d.from b (omega (arith, m, d.same_length)))))
             (All-tail (λ x. All P x.value) n ns k);
-        values = λ before after base ws h noted called.
+        values = λ before after base ds h noted called.
             let first = noted.0 in
             let rest = noted.1 in
             let here = noted.3 in
@@ -101,8 +101,9 @@ made_then count env env1 env2 code code1 code2 n ns r w m =
             let mid = parts.0 in
             let one = subst (λ (s : N.State). Holds env1 mid s) (sym (here.does base)) (d.values before mid here.state base h here.indices parts.1) in
             let others = notes_stay count code.next ns w.calls before mid rest (All-tail (IsNoteReady count code.next) n ns r.noted) d.added.fresh parts.1 noted.4 in
-            subst (λ (s : N.State). Holds env2 after s) (sym (write_all-append first rest base) ∙ ap (N.write_all base) (sym noted.2))
-            (e.values mid after (N.write_all base first) rest one others parts.2);
+            subst (λ (s : N.State). Holds env2 after s)
+            (sym (write_all-append (N.flatten (N.undelayed first)) (N.flatten (N.undelayed rest)) base) ∙ ap (N.write_all base) (sym (ap (λ (xs : List N.Delayed). N.flatten (N.undelayed xs)) noted.2 ∙ text-append first rest)))
+            (e.values mid after (N.write_all base (N.flatten (N.undelayed first))) rest one others parts.2);
       };
     }
   where

@@ -16,6 +16,7 @@ use Rattle.vs_design.specs.Bodies.{is_taken}
 use Rattle.vs_code.specs.Kernels.{operator_of, takes, room_of}
 use Rattle.vs_code.specs.Calls.{Call, IsCall, call_cost}
 use Rattle.vs_values.specs.Added.{IsEnv, Holds, AreValues, fresh_call, IsNew}
+use Rattle.vs_lower.specs.InText.{in_text}
 use Rattle.vs_lower.specs.Cases.{match_kernel, matches_of}
 use Rattle.vs_lower.specs.Done.{IsCondition, IsDone}
 use Rattle.vs_values.proofs.Lists.{range_below}
@@ -211,5 +212,5 @@ done_as now later tv sv m run same at_once updated most more c now1 later1 n is 
   now_from = o.now_from;
   later_from = o.later_from;
   now_values = λ before after state ahead h k g called. subst (λ (x : N.Effect). Holds now1 after (N.write_all state x.writes)) (is state) (o.now_values before after state ahead h k g called);
-  later_values = λ before after state ahead h k g called. subst (λ (x : N.Effect). Holds later1 after (N.write_all ahead (N.flatten x.updates))) (is state) (o.later_values before after state ahead h k g called);
+  later_values = λ before after state ahead h k g called. subst (λ (x : N.Effect). Holds later1 after (N.write_all ahead (in_text x))) (is state) (o.later_values before after state ahead h k g called);
 }

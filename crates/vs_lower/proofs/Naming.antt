@@ -52,7 +52,7 @@ have_items d tree st other (a ∷ arms) h =
 
 pub items_of : (d : Design) (a : Arena) (place : ℕ) (b : Statement) → is_formed_statement d (body_of_statement a place b) ≡ true → HasItems b
 items_of d a place S.Empty h = tt
-items_of d a place (S.Assign target e blocking) h = tt
+items_of d a place (S.Assign target e blocking delay) h = tt
 items_of d a place (S.If c taken other) h = tt
 items_of d a place (S.Case kind of arms other) h = have_items d (tree_of a) (body_of a) other arms (both_true (is_formed d (tree_of a of)) (are_formed_arms d (arms_tree (tree_of a) (body_of a) other arms)) h).1
 items_of d a place (S.Seq parts) h = tt

@@ -4,7 +4,7 @@ use Rattle.std.specs.List.{All}
 use Rattle.std.proofs.lemmas.List.Elements.{All-head, All-tail, All-weaker}
 use Rattle.std.proofs.lemmas.List.FromFn.{length-range_with_len}
 use Rattle.vs_net.specs.Network as N
-use Rattle.vs_design.specs.Bodies.{body}
+use Rattle.vs_design.specs.Bodies.{body, updates_in}
 use Rattle.vs_design.specs.Fits.{fits_statement}
 use Rattle.vs_design.specs.Footprints.{contains, statement_bits}
 use Rattle.vs_design.specs.Races.{blocking_bits, nonblocking_bits}
@@ -13,7 +13,9 @@ use Rattle.vs_design.specs.TreeLaws.{BodyWritesWithin}
 use Rattle.vs_values.specs.Added.{IsNew}
 use Rattle.vs_values.specs.Coded.{Coding}
 use Rattle.vs_values.specs.Environments.{homes, placed}
+use Rattle.vs_lower.specs.InText.{in_text}
 use Rattle.vs_lower.specs.Next.{AddsNext, IsNext, IsNextSlot}
+use Rattle.vs_lower.specs.Rising.{IsInOrder}
 use Rattle.vs_lower.specs.Stated.{AreApart, AreInside, AreSettled}
 use Rattle.vs_lower.proofs.Apart.{blocking_among, nonblocking_among, outside}
 use Rattle.vs_lower.proofs.Blocking.{AddsBlock}
@@ -41,7 +43,7 @@ placed_at env other (c ∷ cs) b i h =
     first false q k h = absurd (true≢false (sym h ∙ k))
 
 module _ (law : BodyWritesWithin) (count : ℕ) (c0 c1 : Coding) (st : Statement) (now1 later1 at_once : List ℕ) (fits : fits_statement st ≡ true) (apart : AreApart (blocking_bits st) (nonblocking_bits st)) (inside : AreInside count (statement_bits st))
-    (same : (b : ℕ) → contains at_once b ≡ contains (blocking_bits st) b) (d : AddsBlock count c0 c1 st now1 later1) where
+    (order : IsInOrder st) (same : (b : ℕ) → contains at_once b ≡ contains (blocking_bits st) b) (d : AddsBlock count c0 c1 st now1 later1) where
   at_once_inside : All (λ b. b < count) at_once
   at_once_inside = all_in count at_once (λ b h. inside b (blocking_among st b (sym (same b) ∙ h)))
 
@@ -63,19 +65,19 @@ module _ (law : BodyWritesWithin) (count : ℕ) (c0 c1 : Coding) (st : Statement
   env_later b h = placed_other later1 at_once (picked now1 at_once) b h
 
   -- where it is not written by an update, it has its value of the writes at once; where it is not written at once, its value of the updates
-  value_at_once : (state : N.State) (b : ℕ) → contains (blocking_bits st) b ≡ true → N.write_all state (body st state).writes b ≡ N.write_all state (N.flatten ((body st state).writes ∷ (body st state).updates)) b
+  value_at_once : (state : N.State) (b : ℕ) → contains (blocking_bits st) b ≡ true → N.write_all state (body st state).writes b ≡ N.write_all state (N.flatten ((body st state).writes ∷ updates_in (body st state))) b
   unfolding N.flatten
   value_at_once state b h =
       let e = body st state in
-      let none = not_true (N.is_written (N.flatten e.updates) b) (λ w. true≢false (sym h ∙ apart b ((effect_within law st fits state).updates b w))) in
-      sym (ap (λ (s : N.State). s b) (write_all-append e.writes (N.flatten e.updates) state) ∙ write_all_other (N.flatten e.updates) (N.write_all state e.writes) b none)
+      let none = not_true (N.is_written (in_text e) b) (λ w. true≢false (sym h ∙ apart b ((effect_within law st fits state).updates b w))) in
+      sym (ap (λ (s : N.State). s b) (write_all-append e.writes (in_text e) state) ∙ write_all_other (in_text e) (N.write_all state e.writes) b none) ∙ ap (λ (us : List N.Update). N.write_all state (N.flatten ((body st state).writes ∷ us)) b) (sym (order state))
 
-  value_updated : (state : N.State) (b : ℕ) → contains (blocking_bits st) b ≡ false → N.write_all state (N.flatten (body st state).updates) b ≡ N.write_all state (N.flatten ((body st state).writes ∷ (body st state).updates)) b
+  value_updated : (state : N.State) (b : ℕ) → contains (blocking_bits st) b ≡ false → N.write_all state (in_text (body st state)) b ≡ N.write_all state (N.flatten ((body st state).writes ∷ updates_in (body st state))) b
   unfolding N.flatten
   value_updated state b h =
       let e = body st state in
       let none = not_true (N.is_written e.writes b) (λ w. true≢false (sym ((effect_within law st fits state).writes b w) ∙ h)) in
-      sym (ap (λ (s : N.State). s b) (write_all-append e.writes (N.flatten e.updates) state) ∙ write_all_at (N.flatten e.updates) (N.write_all state e.writes) state b (write_all_other e.writes state b none))
+      sym (ap (λ (s : N.State). s b) (write_all-append e.writes (in_text e) state) ∙ write_all_at (in_text e) (N.write_all state e.writes) state b (write_all_other e.writes state b none)) ∙ ap (λ (us : List N.Update). N.write_all state (N.flatten ((body st state).writes ∷ us)) b) (sym (order state))
 
   env_from : (b : ℕ) → b < count → IsNextSlot count c0.next (slice_index env b)
   env_from b l =
@@ -117,13 +119,13 @@ module _ (law : BodyWritesWithin) (count : ℕ) (c0 c1 : Coding) (st : Statement
   unfolding env
   next_placed next e = subst (λ (x : List ℕ). IsNext count c0.next st d.calls x c1.next) (sym e) env_next
 
-pub next_settled : BodyWritesWithin → (count : ℕ) (c0 c1 : Coding) (st : Statement) (now1 later1 next : List ℕ) → fits_statement st ≡ true → AreApart (blocking_bits st) (nonblocking_bits st) → AreInside count (statement_bits st)
+pub next_settled : BodyWritesWithin → (count : ℕ) (c0 c1 : Coding) (st : Statement) (now1 later1 next : List ℕ) → fits_statement st ≡ true → AreApart (blocking_bits st) (nonblocking_bits st) → AreInside count (statement_bits st) → IsInOrder st
     → (d : AddsBlock count c0 c1 st now1 later1) → AreSettled (blocking_bits st) now1 later1 next → IsNext count c0.next st d.calls next c1.next
-next_settled law count c0 c1 st now1 later1 next fits apart inside d s = next_placed law count c0 c1 st now1 later1 s.bits fits apart inside s.same d next s.are
+next_settled law count c0 c1 st now1 later1 next fits apart inside order d s = next_placed law count c0 c1 st now1 later1 s.bits fits apart inside order s.same d next s.are
 
-pub adds_settled : BodyWritesWithin → (count : ℕ) (c0 c1 : Coding) (st : Statement) (now1 later1 next : List ℕ) → fits_statement st ≡ true → AreApart (blocking_bits st) (nonblocking_bits st) → AreInside count (statement_bits st)
+pub adds_settled : BodyWritesWithin → (count : ℕ) (c0 c1 : Coding) (st : Statement) (now1 later1 next : List ℕ) → fits_statement st ≡ true → AreApart (blocking_bits st) (nonblocking_bits st) → AreInside count (statement_bits st) → IsInOrder st
     → AddsBlock count c0 c1 st now1 later1 → AreSettled (blocking_bits st) now1 later1 next → AddsNext count c0 c1 st next
-adds_settled law count c0 c1 st now1 later1 next fits apart inside d s = record { calls = d.calls; is = d.is; added = d.done.added; next = next_settled law count c0 c1 st now1 later1 next fits apart inside d s }
+adds_settled law count c0 c1 st now1 later1 next fits apart inside order d s = record { calls = d.calls; is = d.is; added = d.done.added; next = next_settled law count c0 c1 st now1 later1 next fits apart inside order d s }
 
 -- what is settled is there
 pub once_inside : (count n : ℕ) (st : Statement) → AreInside count (statement_bits st) → n ≡ count → AreInside n (blocking_bits st)

@@ -25,9 +25,10 @@ pub notes_more : (count m n : ℕ) (notes : List Note) → m ≤ n → All (IsNo
 notes_more count m n notes l h = All-weaker (IsNoteReady count m) (IsNoteReady count n) (λ note r. note_more count m n note l r) notes h
 
 -- what a note does is the same after calls that write new slots alone
-note_stays : (count mark : ℕ) (note : Note) (calls : List Call) (before after : State) (ws : List N.Write) → IsNoteReady count mark note → All (λ s. mark ≤ s) (targets_of calls) → AreCalled calls before after → IsNotedAs note before ws → IsNotedAs note after ws
-note_stays count mark note calls before after ws r fresh called h = record {
+note_stays : (count mark : ℕ) (note : Note) (calls : List Call) (before after : State) (ds : List N.Delayed) → IsNoteReady count mark note → All (λ s. mark ≤ s) (targets_of calls) → AreCalled calls before after → IsNotedAs note before ds → IsNotedAs note after ds
+note_stays count mark note calls before after ds r fresh called h = record {
   state = h.state;
+  delays = h.delays;
   indices = vectors_stay calls mark before after note.at fresh called r.at_below ∙ h.indices;
   does = λ base.
       h.does base
@@ -35,17 +36,17 @@ note_stays count mark note calls before after ws r fresh called h = record {
       ∙ ap (λ (v : BitList). if is_barred note.bar after then base else N.write_all base (target_writes note.target v h.state)) (sym (vector_stays calls mark before after note.value fresh called r.value_below));
 }
 
-pub notes_stay : (count mark : ℕ) (notes : List Note) (calls : List Call) (before after : State) (ws : List N.Write) → All (IsNoteReady count mark) notes → All (λ s. mark ≤ s) (targets_of calls) → AreCalled calls before after → AreNotedAs notes before ws → AreNotedAs notes after ws
-notes_stay count mark [] calls before after ws r fresh called h = h
-notes_stay count mark (n ∷ ns) calls before after ws r fresh called (first, rest, is, here, there) =
+pub notes_stay : (count mark : ℕ) (notes : List Note) (calls : List Call) (before after : State) (ds : List N.Delayed) → All (IsNoteReady count mark) notes → All (λ s. mark ≤ s) (targets_of calls) → AreCalled calls before after → AreNotedAs notes before ds → AreNotedAs notes after ds
+notes_stay count mark [] calls before after ds r fresh called h = h
+notes_stay count mark (n ∷ ns) calls before after ds r fresh called (first, rest, is, here, there) =
     (first, rest, is, note_stays count mark n calls before after first (All-head (IsNoteReady count mark) n ns r) fresh called here, notes_stay count mark ns calls before after rest (All-tail (IsNoteReady count mark) n ns r) fresh called there)
 
-pub notes_append : (xs ys : List Note) (slots : State) (us vs : List N.Write) → AreNotedAs xs slots us → AreNotedAs ys slots vs → AreNotedAs (xs ++ ys) slots (us ++ vs)
-notes_append [] ys slots us vs h k = subst (λ (ws : List N.Write). AreNotedAs ys slots (ws ++ vs)) (sym h) k
+pub notes_append : (xs ys : List Note) (slots : State) (us vs : List N.Delayed) → AreNotedAs xs slots us → AreNotedAs ys slots vs → AreNotedAs (xs ++ ys) slots (us ++ vs)
+notes_append [] ys slots us vs h k = subst (λ (ds : List N.Delayed). AreNotedAs ys slots (ds ++ vs)) (sym h) k
 notes_append (n ∷ ns) ys slots us vs (first, rest, is, here, there) k =
-    (first, rest ++ vs, ap (λ (ws : List N.Write). ws ++ vs) is ∙ append_assoc first rest vs, here, notes_append ns ys slots rest vs there k)
+    (first, rest ++ vs, ap (λ (ds : List N.Delayed). ds ++ vs) is ∙ append_assoc first rest vs, here, notes_append ns ys slots rest vs there k)
 
-pub notes_as : (notes : List Note) (slots : State) (us vs : List N.Write) → us ≡ vs → AreNotedAs notes slots us → AreNotedAs notes slots vs
+pub notes_as : (notes : List Note) (slots : State) (us vs : List N.Delayed) → us ≡ vs → AreNotedAs notes slots us → AreNotedAs notes slots vs
 notes_as notes slots us vs e h = subst (AreNotedAs notes slots) e h
 
 -- ---- where slots come from

@@ -172,7 +172,7 @@ comb_lowered l place star events st c now later n js comb room done inside rest 
 
 pub assign_lowered : (l : Layout) (place : ℕ) (port : Port) (target_place : ℕ) (target : Target) (e : Expression) (c : List Call) (now later : List ℕ) (n most : ℕ) (js : List ℕ)
     → home l.bits ≤ l.first_temp
-    → IsDone (homes l.bits) (homes l.bits) [] (λ state. []) l.first_temp (λ state. effect_of false (assignment_writes target e state)) [] (target_bits target) most c now later n
+    → IsDone (homes l.bits) (homes l.bits) [] (λ state. []) l.first_temp (λ state. effect_of false 0 (assignment_writes target e state)) [] (target_bits target) most c now later n
     → All (λ j. j < l.bits) js
     → ((b : ℕ) → b < l.bits → contains js b ≡ false → slice_index later b ≡ home b)
     → most + length js ≤ assignment_weight target e

@@ -13,7 +13,7 @@ use Rattle.vs_four.specs.Logic.{truth}
 use Rattle.vs_four.specs.Tables.{is_one, same}
 use Rattle.vs_net.specs.Network as N
 use Rattle.vs_net.specs.Solution.{reset_effects}
-use Rattle.vs_design.specs.Bodies.{body}
+use Rattle.vs_design.specs.Bodies.{body, updates_in}
 use Rattle.vs_design.specs.Designs.{Process}
 use Rattle.vs_design.specs.Expressions.{Name, LogicalNot, Unary, sign, width}
 use Rattle.vs_design.specs.Fits.{is_fit}
@@ -135,14 +135,14 @@ active_is true input s = at_zero (s input)
 
 -- what its branch gives where it is active
 same_effects : (q : Bool) (r : N.Reset) (falls : Bool) (input : ℕ) (st : Statement) (s : N.State) → IsResetOf r falls input st → is_one (truth (own_value (reset_condition falls input) s)) ≡ q
-    → (if q then N.write_all s (N.flatten ((body st s).writes ∷ (body st s).updates)) else s) ≡ N.write_all s (N.flatten (if q then N.branch r else []))
+    → (if q then N.write_all s (N.flatten ((body st s).writes ∷ updates_in (body st s))) else s) ≡ N.write_all s (N.flatten (if q then N.branch r else []))
 unfolding N.flatten N.write_all
 same_effects true r falls input st s is e =
-    ap (λ (ws : List N.Write). N.write_all s (N.flatten (ws ∷ (body st s).updates))) (is.writes_are s) ∙ ap (λ (us : List N.Update). N.write_all s (N.flatten (r.writes ∷ us))) (is.updates_are s)
+    ap (λ (ws : List N.Write). N.write_all s (N.flatten (ws ∷ updates_in (body st s)))) (is.writes_are s) ∙ ap (λ (us : List N.Update). N.write_all s (N.flatten (r.writes ∷ us))) (is.updates_are s)
 same_effects false r falls input st s is e = refl
 
 reset_gives : (r : N.Reset) (falls : Bool) (input : ℕ) (st : Statement) (s : N.State) → IsResetOf r falls input st
-    → (if is_one (truth (own_value (reset_condition falls input) s)) then N.write_all s (N.flatten ((body st s).writes ∷ (body st s).updates)) else s) ≡ N.write_all s (N.flatten (reset_effects (Some r) s))
+    → (if is_one (truth (own_value (reset_condition falls input) s)) then N.write_all s (N.flatten ((body st s).writes ∷ updates_in (body st s))) else s) ≡ N.write_all s (N.flatten (reset_effects (Some r) s))
 reset_gives r falls input st s is =
     same_effects (is_one (truth (own_value (reset_condition falls input) s))) r falls input st s is refl
     ∙ ap (λ (q : Bool). N.write_all s (N.flatten (if q then N.branch r else [])))
@@ -258,7 +258,7 @@ module _ (count : ℕ) (falls : Bool) (input : ℕ) (st : Statement) (c0 c1 c2 :
         let h2 = holds_after (homes count) t.adds.calls c1.next firsts.0 parts.0 state (env_more (homes count) c0.next c1.next condition.added.grown homes0) t.adds.added.fresh firsts.2 h1 in
         let is_cond : map parts.0 tc ≡ cond state = vector_stays t.adds.calls c1.next firsts.0 parts.0 tc t.adds.added.fresh firsts.2 condition.below ∙ condition.values before firsts.0 state h refl firsts.1 in
         subst (λ (s : N.State). Holds env3 after s) (reset_gives r falls input st state is)
-        (reset_merges.merged.values parts.0 after (cond state) (N.write_all state (N.flatten ((body st state).writes ∷ (body st state).updates))) state (t.adds.next.values firsts.0 parts.0 state h1 firsts.2) h2 is_cond parts.2)
+        (reset_merges.merged.values parts.0 after (cond state) (N.write_all state (N.flatten ((body st state).writes ∷ updates_in (body st state)))) state (t.adds.next.values firsts.0 parts.0 state h1 firsts.2) h2 is_cond parts.2)
 
     reset_from : (b : ℕ) → b < count → (slice_index env3 b ≡ slice_index (homes count) b) ⊎ IsSource (homes count) c0.next [] (slice_index env3 b)
     reset_from b l = by (reset_merges.merged.from b (omega (arith, l, length-range_with_len 4 count)))

@@ -12,10 +12,12 @@ use Rattle.vs_flat.specs.Arena.{Arena}
 use Rattle.vs_values.specs.Added.{Holds}
 use Rattle.vs_values.specs.Coded.{Coding}
 use Rattle.vs_values.proofs.Adding.{added_none, added_within, holds_after}
-use Rattle.vs_lower.specs.Unless.{AddsUnlessStatement, IsNoteReady, IsTakenFrom, IsUnlessReady, is_barred}
+use Rattle.vs_lower.specs.InText.{in_text}
+use Rattle.vs_lower.specs.Unless.{AddsUnlessStatement, IsNoteReady, IsTakenFrom, IsUnlessReady, is_barred, writing}
 use Rattle.vs_lower.specs.declared.unless.Update.{Update}
 use Rattle.vs_lower.proofs.Apart.{blocking_among, nonblocking_among}
 use Rattle.vs_lower.proofs.Distinct.{distinct_most}
+use Rattle.vs_lower.proofs.Delaying.{writing_none}
 use Rattle.vs_lower.proofs.Effecting.{effect_within}
 use Rattle.vs_lower.proofs.Noting.{all_by}
 use Rattle.vs_lower.proofs.Placing.{by_test}
@@ -69,20 +71,20 @@ adds_nothing law a bits now bar code us st none r = record {
     values = λ before after state h called.
         subst (λ (s : N.State). Holds now after s) (sym (same (is_barred bar before) state (body st state).writes (at_once state)))
         (holds_after now [] code.next before after state r.now_env (All-nil (λ slot. code.next ≤ slot)) called h);
-    updates = λ before after state h called. nothing (is_barred bar before) (N.flatten (body st state).updates) (later state);
+    updates = λ before after state h called. nothing (is_barred bar before) (writing (body st state).updates) (later state);
   };
 }
   where
     at_once : (s : N.State) → (body st s).writes ≡ []
     at_once s = no_writes (body st s).writes (λ b w. true≢false (sym (blocking_among st b ((effect_within law st r.fit s).writes b w)) ∙ none b))
 
-    later : (s : N.State) → N.flatten (body st s).updates ≡ []
-    later s = no_writes (N.flatten (body st s).updates) (λ b w. true≢false (sym (nonblocking_among st b ((effect_within law st r.fit s).updates b w)) ∙ none b))
+    later : (s : N.State) → writing (body st s).updates ≡ []
+    later s = writing_none (body st s).updates (no_writes (in_text (body st s)) (λ b w. true≢false (sym (nonblocking_among st b ((effect_within law st r.fit s).updates b w)) ∙ none b)))
 
     same : (q : Bool) (s : N.State) (ws : List N.Write) → ws ≡ [] → (if q then s else N.write_all s ws) ≡ s
     same true s ws e = refl
     same false s ws e = ap (N.write_all s) e
 
-    nothing : (q : Bool) (ws : List N.Write) → ws ≡ [] → (if q then [] else ws) ≡ []
-    nothing true ws e = refl
-    nothing false ws e = e
+    nothing : (q : Bool) (ds : List N.Delayed) → ds ≡ [] → (if q then [] else ds) ≡ []
+    nothing true ds e = refl
+    nothing false ds e = e

@@ -29,24 +29,24 @@ use Rattle.vs_design.specs.Within.{names_within, arms_within}
 
 -- ---- an assignment
 
-most_within : (blocking : Bool) (target : Target) (e : Expression) (place : ℕ) → assign_most (not blocking) target e ≤ statement_weight (Assignment place target e blocking)
-most_within true target e place = omega arith
-most_within false target e place = omega arith
+most_within : (blocking : Bool) (target : Target) (e : Expression) (place delay : ℕ) → assign_most (not blocking) target e ≤ statement_weight (Assignment place target e blocking delay)
+most_within true target e place delay = omega arith
+most_within false target e place delay = omega arith
 
-pub adds_assign : (now ahead : List ℕ) (old new : Coding) (place : ℕ) (target : Target) (e : Expression) (blocking : Bool) (now1 ahead1 : List ℕ)
-    → AddsRun now ahead old new (λ state. effect_of (not (not blocking)) (assignment_writes target e state)) (if not blocking then [] else target_bits target) (if not blocking then target_bits target else []) (assign_most (not blocking) target e) now1 ahead1
-    → AddsStatement now ahead old new (Assignment place target e blocking) now1 ahead1
-adds_assign now ahead old new place target e true now1 ahead1 d = record {
+pub adds_assign : (now ahead : List ℕ) (old new : Coding) (place : ℕ) (target : Target) (e : Expression) (blocking : Bool) (delay : ℕ) (now1 ahead1 : List ℕ)
+    → AddsRun now ahead old new (λ state. effect_of (not (not blocking)) delay (assignment_writes target e state)) (if not blocking then [] else target_bits target) (if not blocking then target_bits target else []) (assign_most (not blocking) target e) now1 ahead1
+    → AddsStatement now ahead old new (Assignment place target e blocking delay) now1 ahead1
+adds_assign now ahead old new place target e true delay now1 ahead1 d = record {
   calls = d.calls;
   is = d.is;
-  done = done_as now ahead [] (λ state. []) old.next (λ state. effect_of true (assignment_writes target e state)) (body (Assignment place target e true)) (target_bits target) [] (assign_most false target e) (statement_weight (Assignment place target e true)) d.calls now1 ahead1 new.next
-      (λ state. refl) (most_within true target e place) d.done;
+  done = done_as now ahead [] (λ state. []) old.next (λ state. effect_of true delay (assignment_writes target e state)) (body (Assignment place target e true delay)) (target_bits target) [] (assign_most false target e) (statement_weight (Assignment place target e true delay)) d.calls now1 ahead1 new.next
+      (λ state. refl) (most_within true target e place delay) d.done;
 }
-adds_assign now ahead old new place target e false now1 ahead1 d = record {
+adds_assign now ahead old new place target e false delay now1 ahead1 d = record {
   calls = d.calls;
   is = d.is;
-  done = done_as now ahead [] (λ state. []) old.next (λ state. effect_of false (assignment_writes target e state)) (body (Assignment place target e false)) [] (target_bits target) (assign_most true target e) (statement_weight (Assignment place target e false)) d.calls now1 ahead1 new.next
-      (λ state. refl) (most_within false target e place) d.done;
+  done = done_as now ahead [] (λ state. []) old.next (λ state. effect_of false delay (assignment_writes target e state)) (body (Assignment place target e false delay)) [] (target_bits target) (assign_most true target e) (statement_weight (Assignment place target e false delay)) d.calls now1 ahead1 new.next
+      (λ state. refl) (most_within false target e place delay) d.done;
 }
 
 -- ---- the bits that a statement writes

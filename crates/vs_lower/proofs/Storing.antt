@@ -187,20 +187,20 @@ source_is now bits m slot (inr (inr h)) = by_test (nat_lt h.0 (length now)) (λ 
     past (y ∷ xs) zero x l e = absurd (omega arith)
     past (y ∷ xs) (suc b) x l e = past xs b x (omega arith) e
 
-pub assigned_later : (a : Arena) (bits : ℕ) (now ahead ahead_after : List ℕ) (code one two : Coding) (t : Target) (e : Expression) (leaves : List Leaf) (tis : List (List ℕ)) (tv : List ℕ) → map (leaf_target a) leaves ≡ leaves_of t
+pub assigned_later : (delay : ℕ) (a : Arena) (bits : ℕ) (now ahead ahead_after : List ℕ) (code one two : Coding) (t : Target) (e : Expression) (leaves : List Leaf) (tis : List (List ℕ)) (tv : List ℕ) → map (leaf_target a) leaves ≡ leaves_of t
     → IsEnv now code.next → IsEnv ahead code.next → All (IsSource now code.next (read_bits e)) tv → AddsOperands now code one t e (operands_weight t e) tis tv
     → AddsWrites ahead ahead_after one two (joined_target (map (leaf_target a) leaves)) tis tv (sum_by write_weight (map (leaf_target a) leaves))
-    → AddsRun now ahead code two (λ state. effect_of false (assignment_writes t e state)) [] (target_bits t) (assign_most true t e) now ahead_after
-assigned_later a bits now ahead ahead_after code one two t e leaves tis tv are en el sources o w0 =
+    → AddsRun now ahead code two (λ state. effect_of false delay (assignment_writes t e state)) [] (target_bits t) (assign_most true t e) now ahead_after
+assigned_later delay a bits now ahead ahead_after code one two t e leaves tis tv are en el sources o w0 =
     let w = subst (λ (ts : List Target). AddsWrites ahead ahead_after one two (joined_target ts) tis tv (sum_by write_weight ts)) are w0 in
     let ww = written_whole ahead one.next t tis tv (sum_by write_weight (leaves_of t)) w.calls ahead_after two.next w.written in
-    let d = done_assignment_later now ahead code.next t e o.calls tv tis one.next (operands_weight t e) w.calls ahead_after two.next (sum_by write_weight (leaves_of t)) en el o.values
+    let d = done_assignment_later delay now ahead code.next t e o.calls tv tis one.next (operands_weight t e) w.calls ahead_after two.next (sum_by write_weight (leaves_of t)) en el o.values
     (All-weaker (IsSource now code.next (read_bits e)) (λ slot. IsNew code.next slot ⊎ ((b : ℕ) × (b < length now) × (slot ≡ slice_index now b))) (λ slot h. source_is now (read_bits e) code.next slot h) tv sources) ww in
     let total : operands_weight t e + sum_by write_weight (leaves_of t) ≡ assign_most true t e = omega (arith, leaf_weights t) in
     record {
       calls = o.calls ++ w.calls;
       is = two_added code.calls o.calls w.calls one.calls two.calls o.is w.is;
-      done = subst (λ (n : ℕ). IsDone now ahead [] (λ state. []) code.next (λ state. effect_of false (assignment_writes t e state)) [] (target_bits t) n (o.calls ++ w.calls) now ahead_after two.next) total d;
+      done = subst (λ (n : ℕ). IsDone now ahead [] (λ state. []) code.next (λ state. effect_of false delay (assignment_writes t e state)) [] (target_bits t) n (o.calls ++ w.calls) now ahead_after two.next) total d;
     }
 
 -- which slots the bits have after an update: their own, a constant's, a new one, or that of a bit that the right side reads
@@ -292,18 +292,18 @@ owned_operands now code one two t e most w tis tv to ie hw f slots few o (inr h)
     subst (AreOwned now code two t e (most + n) tis) (sym same_to) (subst (λ (c : Coding). AreOwned now code c t e (most + n) tis (range_with_len one.next n)) (sym same_code)
     (record { operands = p; fresh = All-weaker (λ slot. one.next ≤ slot) (λ slot. (slot < 4) ⊎ (code.next ≤ slot)) (λ slot l. inr (omega (arith, o.values.added.grown))) (range_with_len one.next n) (range_from one.next n one.next (omega arith)) }))
 
-pub assigned_now : (a : Arena) (bits : ℕ) (now ahead now_after : List ℕ) (code one two : Coding) (t : Target) (e : Expression) (leaves : List Leaf) (tis : List (List ℕ)) (tv : List ℕ) → map (leaf_target a) leaves ≡ leaves_of t
+pub assigned_now : (delay : ℕ) (a : Arena) (bits : ℕ) (now ahead now_after : List ℕ) (code one two : Coding) (t : Target) (e : Expression) (leaves : List Leaf) (tis : List (List ℕ)) (tv : List ℕ) → map (leaf_target a) leaves ≡ leaves_of t
     → IsEnv now code.next → IsEnv ahead code.next → AreOwned now code one t e (operands_weight t e + target_width t) tis tv
     → AddsWrites now now_after one two (joined_target (map (leaf_target a) leaves)) tis tv (sum_by write_weight (map (leaf_target a) leaves))
-    → AddsRun now ahead code two (λ state. effect_of true (assignment_writes t e state)) (target_bits t) [] (assign_most false t e) now_after ahead
-assigned_now a bits now ahead now_after code one two t e leaves tis tv are en el own w0 =
+    → AddsRun now ahead code two (λ state. effect_of true delay (assignment_writes t e state)) (target_bits t) [] (assign_most false t e) now_after ahead
+assigned_now delay a bits now ahead now_after code one two t e leaves tis tv are en el own w0 =
     let o = own.operands in
     let w = subst (λ (ts : List Target). AddsWrites now now_after one two (joined_target ts) tis tv (sum_by write_weight ts)) are w0 in
     let ww = written_whole now one.next t tis tv (sum_by write_weight (leaves_of t)) w.calls now_after two.next w.written in
-    let d = done_assignment_now now ahead code.next t e o.calls tv tis one.next (operands_weight t e + target_width t) w.calls now_after two.next (sum_by write_weight (leaves_of t)) en el o.values own.fresh ww in
+    let d = done_assignment_now delay now ahead code.next t e o.calls tv tis one.next (operands_weight t e + target_width t) w.calls now_after two.next (sum_by write_weight (leaves_of t)) en el o.values own.fresh ww in
     let total : operands_weight t e + target_width t + sum_by write_weight (leaves_of t) ≡ assign_most false t e = omega (arith, leaf_weights t) in
     record {
       calls = o.calls ++ w.calls;
       is = two_added code.calls o.calls w.calls one.calls two.calls o.is w.is;
-      done = subst (λ (n : ℕ). IsDone now ahead [] (λ state. []) code.next (λ state. effect_of true (assignment_writes t e state)) (target_bits t) [] n (o.calls ++ w.calls) now_after ahead two.next) total d;
+      done = subst (λ (n : ℕ). IsDone now ahead [] (λ state. []) code.next (λ state. effect_of true delay (assignment_writes t e state)) (target_bits t) [] n (o.calls ++ w.calls) now_after ahead two.next) total d;
     }

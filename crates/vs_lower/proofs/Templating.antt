@@ -95,7 +95,7 @@ target_inside n (Both high low) f w b h =
 mutual
   pub statement_inside : (n : ℕ) (st : Statement) → fits_statement st ≡ true → statement_within n st ≡ true → (b : ℕ) → contains (statement_bits st) b ≡ true → b < n
   statement_inside n Empty f w b h = cc
-  statement_inside n (Assignment place target e blocking) f w b h =
+  statement_inside n (Assignment place target e blocking delay) f w b h =
       target_inside n target (both_true (fits_target target) (is_fit e) f).0 (both_true (target_within n target) (names_within n e) w).0 b h
   statement_inside n (Then first rest) f w b h =
       let p = both_true (fits_statement first) (fits_statement rest) f in

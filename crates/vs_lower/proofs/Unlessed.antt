@@ -29,7 +29,7 @@ use Rattle.vs_lower.specs.Assigned.{AddsOperands, operands_weight}
 use Rattle.vs_lower.specs.Cases.{matches_of}
 use Rattle.vs_lower.specs.Done.{index_values}
 use Rattle.vs_lower.specs.Tested.{AddsTests, AreTestsReady}
-use Rattle.vs_lower.specs.Unless.{AddsUnless, AddsUnlessArm, AddsUnlessArms, AddsUnlessStatement, AddsUnlessWrite, AreUnlessArmsReady, IsNoteReady, IsTakenFrom, IsUnlessArmReady, IsUnlessDone, IsUnlessReady, IsUnlessWriteReady, Note, bar_args, is_barred, note_of, unless_weight, with_bar, with_bars}
+use Rattle.vs_lower.specs.Unless.{AddsUnless, AddsUnlessArm, AddsUnlessArms, AddsUnlessStatement, AddsUnlessWrite, AreAt, AreUnlessArmsReady, IsNoteReady, IsTakenFrom, IsUnlessArmReady, IsUnlessDone, IsUnlessReady, IsUnlessWriteReady, Note, bar_args, is_barred, note_of, unless_weight, with_bar, with_bars}
 use Rattle.vs_lower.specs.Written.{HasRoom}
 use Rattle.vs_lower.specs.declared.unless.Update.{Update}
 use Rattle.vs_values.proofs.Adding.{added_more, added_none, added_within, called_parts, env_more, holds_after, vector_stays}
@@ -38,6 +38,7 @@ use Rattle.vs_values.proofs.Values.{both_true}
 use Rattle.vs_lower.proofs.Armed.{all_fit, all_listed, all_within, items_count}
 use Rattle.vs_lower.proofs.Bars.{AreBarsReady, bar_call, bar_calls, bar_stays, bars_added, bars_hold, first_callable, second_callable, two_more}
 use Rattle.vs_lower.proofs.Conditional.{HasGrown, total_of}
+use Rattle.vs_lower.proofs.Delaying.{writing_at, writing_same}
 use Rattle.vs_lower.proofs.Joining.{neither}
 use Rattle.vs_lower.proofs.Matching.{taken_is}
 use Rattle.vs_lower.proofs.Noting.{all_by}
@@ -53,19 +54,19 @@ use Rattle.vs_lower.proofs.Unlessing.{Meets, if_meets, left, then_meets, unless_
 two_lists : (x y : BitList) (xs ys : List BitList) → (x ∷ xs) ≡ (y ∷ ys) → (x ≡ y) × (xs ≡ ys)
 two_lists x y xs ys h = (cc, cc)
 
-pub assign_weight : (place : ℕ) (t : Target) (e : Expression) (blocking : Bool) → operands_weight t e + unless_weight t ≡ statement_weight (Assignment place t e blocking)
-assign_weight place t e blocking = omega (arith, leaf_weights t)
+pub assign_weight : (place : ℕ) (t : Target) (e : Expression) (blocking : Bool) (delay : ℕ) → operands_weight t e + unless_weight t ≡ statement_weight (Assignment place t e blocking delay)
+assign_weight place t e blocking delay = omega (arith, leaf_weights t)
 
-pub assign_room : (bits place : ℕ) (now : List ℕ) (bar : ℕ) (code : Coding) (t : Target) (e : Expression) (blocking : Bool) → IsUnlessReady bits now bar code (Assignment place t e blocking) → HasRoom now code (operands_weight t e)
-assign_room bits place now bar code t e blocking r =
-    let w = assign_weight place t e blocking in
+pub assign_room : (bits place : ℕ) (now : List ℕ) (bar : ℕ) (code : Coding) (t : Target) (e : Expression) (blocking : Bool) (delay : ℕ) → IsUnlessReady bits now bar code (Assignment place t e blocking delay) → HasRoom now code (operands_weight t e)
+assign_room bits place now bar code t e blocking delay r =
+    let w = assign_weight place t e blocking delay in
     record { is_env = r.now_env; light = omega (arith, r.light, w); slots = omega (arith, r.slots, w); few = omega (arith, r.few, w) }
 
 -- what the write needs once its operands are there
-pub assign_write : (bits place : ℕ) (now : List ℕ) (bar : ℕ) (code one : Coding) (t : Target) (e : Expression) (blocking : Bool) (tis : List (List ℕ)) (tv : List ℕ) → IsUnlessReady bits now bar code (Assignment place t e blocking)
+pub assign_write : (bits place : ℕ) (now : List ℕ) (bar : ℕ) (code one : Coding) (t : Target) (e : Expression) (blocking : Bool) (delay : ℕ) (tis : List (List ℕ)) (tv : List ℕ) → IsUnlessReady bits now bar code (Assignment place t e blocking delay)
     → AddsOperands now code one t e (operands_weight t e) tis tv → IsUnlessWriteReady now one t tis tv bar
-assign_write bits place now bar code one t e blocking tis tv r o =
-    let w = assign_weight place t e blocking in
+assign_write bits place now bar code one t e blocking delay tis tv r o =
+    let w = assign_weight place t e blocking delay in
     let a = o.values.added in
     let P : List ℕ → Type 0 = λ to. All (λ slot. slot < one.next) to in
     record {
@@ -86,21 +87,21 @@ sources_taken : (now bits : List ℕ) (m : ℕ) (tv : List ℕ) → All (IsSourc
 sources_taken now bits m tv h = All-weaker (IsSource now m bits) (IsTakenFrom now m) (λ slot k. source_is now bits m slot k) tv h
 
 -- by `=`: it writes at once
-pub assigned_at_once : (a : Arena) (bits place : ℕ) (now : List ℕ) (bar : ℕ) (now1 : List ℕ) (code one two : Coding) (us : List Update) (t : Target) (e : Expression) (tis : List (List ℕ)) (tv : List ℕ) → IsUnlessReady bits now bar code (Assignment place t e true)
+pub assigned_at_once : (delay : ℕ) (a : Arena) (bits place : ℕ) (now : List ℕ) (bar : ℕ) (now1 : List ℕ) (code one two : Coding) (us : List Update) (t : Target) (e : Expression) (tis : List (List ℕ)) (tv : List ℕ) → IsUnlessReady bits now bar code (Assignment place t e true delay)
     → All (IsSource now code.next (read_bits e)) tv → AddsOperands now code one t e (operands_weight t e) tis tv → AddsUnlessWrite now now1 one two t tis tv bar
-    → AddsUnlessStatement a now bar code two us us (Assignment place t e true) now1
+    → AddsUnlessStatement a now bar code two us us (Assignment place t e true delay) now1
 unfolding N.write_all N.flatten
-assigned_at_once a bits place now bar now1 code one two us t e tis tv r sources o w =
+assigned_at_once delay a bits place now bar now1 code one two us t e tis tv r sources o w =
     let x = o.values.added in
     let d = w.written in
-    let weighs = assign_weight place t e true in
+    let weighs = assign_weight place t e true delay in
     record {
       calls = o.calls ++ w.calls;
       is = two_added code.calls o.calls w.calls one.calls two.calls o.is w.is;
       more = [];
       added = sym (append-nil us);
       done = record {
-        added = added_within code.next (o.calls ++ w.calls) two.next (operands_weight t e + unless_weight t) (statement_weight (Assignment place t e true)) (omega (arith, weighs))
+        added = added_within code.next (o.calls ++ w.calls) two.next (operands_weight t e + unless_weight t) (statement_weight (Assignment place t e true delay)) (omega (arith, weighs))
             (added_more code.next o.calls one.next (operands_weight t e) w.calls two.next (unless_weight t) x d.added);
         now_env = d.is_env;
         now_length = d.same_length;
@@ -116,9 +117,9 @@ assigned_at_once a bits place now bar now1 code one two us t e tis tv r sources 
             let are = two_lists (map mid tv) (assigned_value e (target_width t) state) (vectors mid tis) (index_values t state) (o.values.values before mid state h parts.1) in
             let held = d.values mid after state state (holds_after now o.calls code.next before mid state r.now_env x.fresh parts.1 h) are.1 parts.2 in
             let barred = bar_stays o.calls code.next before mid bar x.fresh parts.1 r.bar_below in
-            let writes : N.write_all state (target_writes t (map mid tv) state) ≡ N.write_all state (body (Assignment place t e true) state).writes =
+            let writes : N.write_all state (target_writes t (map mid tv) state) ≡ N.write_all state (body (Assignment place t e true delay) state).writes =
             ap (λ (v : BitList). N.write_all state (target_writes t v state)) are.0 ∙ sym (write_all_last (target_writes t (assigned_value e (target_width t) state) state) state) in
-            subst (λ (q : Bool). Holds now1 after (if q then state else N.write_all state (body (Assignment place t e true) state).writes)) barred
+            subst (λ (q : Bool). Holds now1 after (if q then state else N.write_all state (body (Assignment place t e true delay) state).writes)) barred
             (subst (λ (s : N.State). Holds now1 after (if is_barred bar mid then state else s)) writes held);
         updates = λ before after state h called. none (is_barred bar before);
       };
@@ -135,23 +136,23 @@ assigned_at_once a bits place now bar now1 code one two us t e tis tv r sources 
     come b l (inr (inr (inr k))) = inl (inr (omega (arith, k, o.values.added.grown)))
 
 -- by `<=`: it waits
-pub assigned_later : (a : Arena) (bits place : ℕ) (now : List ℕ) (bar : ℕ) (code one : Coding) (before_us after_us : List Update) (u : Update) (t : Target) (e : Expression) (tis : List (List ℕ)) (tv : List ℕ) → IsUnlessReady bits now bar code (Assignment place t e false)
+pub assigned_later : (delay : ℕ) (a : Arena) (bits place : ℕ) (now : List ℕ) (bar : ℕ) (code one : Coding) (before_us after_us : List Update) (u : Update) (t : Target) (e : Expression) (tis : List (List ℕ)) (tv : List ℕ) → IsUnlessReady bits now bar code (Assignment place t e false delay)
     → All (IsSource now code.next (read_bits e)) tv → AddsOperands now code one t e (operands_weight t e) tis tv
-    → after_us ≡ before_us ++ u ∷ [] → note_of a u ≡ record { target = t; at = tis; value = tv; bar = bar }
-    → AddsUnlessStatement a now bar code one before_us after_us (Assignment place t e false) now
+    → after_us ≡ before_us ++ u ∷ [] → note_of a u ≡ record { target = t; at = tis; value = tv; bar = bar; delay = delay }
+    → AddsUnlessStatement a now bar code one before_us after_us (Assignment place t e false delay) now
 unfolding N.write_all N.flatten
-assigned_later a bits place now bar code one before_us after_us u t e tis tv r sources o pushed is =
+assigned_later delay a bits place now bar code one before_us after_us u t e tis tv r sources o pushed is =
     let x = o.values.added in
-    let weighs = assign_weight place t e false in
-    let ready = assign_write bits place now bar code one t e false tis tv r o in
-    let n : Note = record { target = t; at = tis; value = tv; bar = bar } in
+    let weighs = assign_weight place t e false delay in
+    let ready = assign_write bits place now bar code one t e false delay tis tv r o in
+    let n : Note = record { target = t; at = tis; value = tv; bar = bar; delay = delay } in
     record {
       calls = o.calls;
       is = o.is;
       more = u ∷ [];
       added = pushed;
-      done = subst (λ (y : Note). IsUnlessDone now bar code.next (λ slots. body (Assignment place t e false)) (target_bits t) (statement_weight (Assignment place t e false)) o.calls now (y ∷ []) one.next) (sym is) (record {
-        added = added_within code.next o.calls one.next (operands_weight t e) (statement_weight (Assignment place t e false)) (omega (arith, weighs)) x;
+      done = subst (λ (y : Note). IsUnlessDone now bar code.next (λ slots. body (Assignment place t e false delay)) (target_bits t) (statement_weight (Assignment place t e false delay)) o.calls now (y ∷ []) one.next) (sym is) (record {
+        added = added_within code.next o.calls one.next (operands_weight t e) (statement_weight (Assignment place t e false delay)) (omega (arith, weighs)) x;
         now_env = env_more now code.next one.next x.grown r.now_env;
         now_length = refl;
         kept = λ b h. refl;
@@ -171,13 +172,14 @@ assigned_later a bits place now bar code one before_us after_us u t e tis tv r s
         values = λ before after state h called. subst (λ (s : N.State). Holds now after s) (sym (same (is_barred bar before) state)) (holds_after now o.calls code.next before after state r.now_env x.fresh called h);
         updates = λ before after state h called.
             let are = two_lists (map after tv) (assigned_value e (target_width t) state) (vectors after tis) (index_values t state) (o.values.values before after state h called) in
-            let ws = body (Assignment place t e false) state in (
+            let ws = body (Assignment place t e false delay) state in (
               updated (is_barred bar before) ws,
               [],
               sym (append-nil (updated (is_barred bar before) ws)),
               record {
                 state = state;
                 indices = are.1;
+                delays = at_delay (is_barred bar before) state;
                 does = λ base.
                     acts (is_barred bar before) base state
                     ∙ ap (λ (v : BitList). if is_barred bar before then base else N.write_all base (target_writes t v state)) (sym are.0)
@@ -188,13 +190,17 @@ assigned_later a bits place now bar code one before_us after_us u t e tis tv r s
       });
     }
   where
-    same : (q : Bool) (s : N.State) → left q s (effect_of false (assignment_writes t e s)) ≡ s
+    same : (q : Bool) (s : N.State) → left q s (effect_of false delay (assignment_writes t e s)) ≡ s
     same true s = refl
     same false s = refl
 
-    acts : (q : Bool) (base s : N.State) → N.write_all base (updated q (effect_of false (assignment_writes t e s))) ≡ (if q then base else N.write_all base (target_writes t (assigned_value e (target_width t) s) s))
+    at_delay : (q : Bool) (s : N.State) → AreAt delay (updated q (effect_of false delay (assignment_writes t e s)))
+    at_delay true s = All-nil (λ (d : N.Delayed). d.delay ≡ delay)
+    at_delay false s = writing_at delay (record { delay = delay; update = assignment_writes t e s } ∷ []) (All-cons (λ (d : N.Delayed). d.delay ≡ delay) (record { delay = delay; update = assignment_writes t e s }) [] refl (All-nil (λ (d : N.Delayed). d.delay ≡ delay)))
+
+    acts : (q : Bool) (base s : N.State) → N.write_all base (N.flatten (N.undelayed (updated q (effect_of false delay (assignment_writes t e s))))) ≡ (if q then base else N.write_all base (target_writes t (assigned_value e (target_width t) s) s))
     acts true base s = refl
-    acts false base s = ap (N.write_all base) (append-nil (assignment_writes t e s)) ∙ write_all_last (target_writes t (assigned_value e (target_width t) s) s) base
+    acts false base s = ap (N.write_all base) (writing_same (record { delay = delay; update = assignment_writes t e s } ∷ []) ∙ append-nil (assignment_writes t e s)) ∙ write_all_last (target_writes t (assigned_value e (target_width t) s) s) base
 
 -- ---- what was added
 

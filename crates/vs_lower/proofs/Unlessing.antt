@@ -1,5 +1,5 @@
 -- Statements under bars: one part behind another, and what an `if`, a case and a sequence make of it.
-use Rattle.std.proofs.Common.{◌≡◌, inl, inr, ℕ, ◌+◌, ◌≤◌, Bool, true, false, not, ◌||◌, List, [], ◌∷◌, ◌++◌, if◌then◌else◌, length, slice_index, sym, ap, ◌∙◌, subst, refl, arith, append-nil, append_assoc, true≢false}
+use Rattle.std.proofs.Common.{◌≡◌, inl, inr, ℕ, ◌+◌, ◌≤◌, Bool, true, false, not, ◌||◌, List, [], ◌++◌, if◌then◌else◌, length, slice_index, sym, ◌∙◌, subst, refl, arith, append-nil, true≢false}
 use Rattle.std.specs.List.{All}
 use Rattle.std.proofs.lemmas.List.Elements.{All-nil, All-append, All-weaker}
 use Rattle.std.proofs.lemmas.List.Sums.{sum_by-append}
@@ -8,17 +8,18 @@ use Rattle.vs_design.specs.Bodies.{both_effects, no_effect}
 use Rattle.vs_design.specs.Footprints.{contains, target_bits}
 use Rattle.vs_code.specs.Calls.{Call, State, AreCalled, call_cost}
 use Rattle.vs_values.specs.Added.{AreAdded, IsEnv, Holds}
-use Rattle.vs_lower.specs.Unless.{AreNotedAs, IsNoteReady, IsTakenFrom, IsUnlessDone, Note, is_barred, unless_weight}
+use Rattle.vs_lower.specs.Unless.{AreNotedAs, IsNoteReady, IsTakenFrom, IsUnlessDone, Note, is_barred, unless_weight, writing}
 use Rattle.vs_values.proofs.Adding.{added_more, added_none, added_within, called_parts, holds_after}
+use Rattle.vs_lower.proofs.Delaying.{writing_append}
 use Rattle.vs_lower.proofs.Noting.{all_by, notes_append, notes_as, notes_more, notes_stay}
 use Rattle.vs_lower.proofs.Placing.{write_all-append}
 
--- what a run leaves in the bits, and what its updates write, unless it is barred
+-- what a run leaves in the bits, and its updates that write a bit, unless it is barred
 abbrev pub left : Bool → N.State → N.Effect → N.State
 left q s e = if q then s else N.write_all s e.writes
 
-abbrev pub updated : Bool → N.Effect → List N.Write
-updated q e = if q then [] else N.flatten e.updates
+abbrev pub updated : Bool → N.Effect → List N.Delayed
+updated q e = if q then [] else writing e.updates
 
 -- ---- nothing
 
@@ -136,17 +137,12 @@ unless_as now bar m run same written others most more c now1 notes n is out l d 
 
 -- ---- what the parts come to
 
-flatten-append : (us vs : List N.Update) → N.flatten (us ++ vs) ≡ N.flatten us ++ N.flatten vs
-unfolding N.flatten
-flatten-append [] vs = refl
-flatten-append (u ∷ us) vs = ap (λ (ws : List N.Write). u ++ ws) (flatten-append us vs) ∙ sym (append_assoc u (N.flatten us) (N.flatten vs))
-
 -- of a sequence both parts have the bar of the whole
 pub then_meets : (q q1 q2 : Bool) (s : N.State) (e : N.Effect) (f : N.State → N.Effect) → q1 ≡ q → q2 ≡ q
     → (left q2 (left q1 s e) (f (left q1 s e)) ≡ left q s (both_effects e (f (N.write_all s e.writes))))
     × ((updated q1 e ++ updated q2 (f (left q1 s e))) ≡ updated q (both_effects e (f (N.write_all s e.writes))))
 then_meets true true true s e f h k = (refl, refl)
-then_meets false false false s e f h k = (sym (write_all-append e.writes (f (N.write_all s e.writes)).writes s), sym (flatten-append e.updates (f (N.write_all s e.writes)).updates))
+then_meets false false false s e f h k = (sym (write_all-append e.writes (f (N.write_all s e.writes)).writes s), sym (writing_append e.updates (f (N.write_all s e.writes)).updates))
 then_meets true false q2 s e f h k = absurd (true≢false (sym h))
 then_meets false true q2 s e f h k = absurd (true≢false h)
 then_meets true true false s e f h k = absurd (true≢false (sym k))
@@ -159,7 +155,7 @@ pub if_meets : (q q1 q2 c : Bool) (s : N.State) (e : N.Effect) (f : N.State → 
 if_meets true true true c s e f h k = (refl, refl)
 if_meets true false q2 c s e f h k = absurd (true≢false (sym h))
 if_meets true true false c s e f h k = absurd (true≢false (sym k))
-if_meets false false true true s e f h k = (refl, append-nil (N.flatten e.updates))
+if_meets false false true true s e f h k = (refl, append-nil (writing e.updates))
 if_meets false true false false s e f h k = (refl, refl)
 if_meets false true q2 true s e f h k = absurd (true≢false h)
 if_meets false false false true s e f h k = absurd (true≢false (sym k))

@@ -10,6 +10,7 @@ use Rattle.vs_design.specs.Footprints.{contains, target_bits}
 use Rattle.vs_design.specs.Races.{blocking_bits, nonblocking_bits}
 use Rattle.vs_design.specs.Sizes.{statement_weight}
 use Rattle.vs_values.specs.Added.{AreAdded, IsEnv, Holds, IsNew, vectors}
+use Rattle.vs_lower.specs.InText.{in_text}
 
 -- What calls do whose run gives these effects. `now` says which slots hold the bits' values, and `later` which hold the values that the bits have
 -- once the updates so far are made (9.2.2); a run writes to the first by its blocking writes and to the second by its updates. Bits that are none
@@ -28,7 +29,7 @@ pub record IsDone (now later tv : List ℕ) (sv : N.State → BitList) (mark : �
   pub now_values : (before after : State) (state ahead : N.State) → Holds now before state → Holds later before ahead → map before tv ≡ sv state → AreCalled calls before after
       → Holds now_after after (N.write_all state (run state).writes)
   pub later_values : (before after : State) (state ahead : N.State) → Holds now before state → Holds later before ahead → map before tv ≡ sv state → AreCalled calls before after
-      → Holds later_after after (N.write_all ahead (N.flatten (run state).updates))
+      → Holds later_after after (N.write_all ahead (in_text (run state)))
 
 -- the slots `tc` have this value of whatever state the slots held before the calls, and of what `tv` has
 pub record IsCondition (now tv : List ℕ) (sv : N.State → BitList) (mark : ℕ) (calls : List Call) (tc : List ℕ) (next most : ℕ) (cond : N.State → BitList) : Type 0 where

@@ -1,3 +1,6 @@
+pub mod InText
+pub mod Rising
+pub mod Sorted
 pub mod Done
 pub mod Copies
 pub mod Joined

@@ -1,7 +1,7 @@
 -- The bits' next values: what the lowering of a clocked block's statement needs and gives, whatever its assignments are.
 use Rattle.std.specs.Prelude.{◌≡◌, ◌⊎◌, ℕ, ◌+◌, ◌<◌, ◌≤◌, ◌^◌, true, false, List, ◌∷◌, ◌++◌, length, slice_index, All}
 use Rattle.vs_net.specs.Network as N
-use Rattle.vs_design.specs.Bodies.{body}
+use Rattle.vs_design.specs.Bodies.{body, updates_in}
 use Rattle.vs_design.specs.Fits.{fits_statement}
 use Rattle.vs_design.specs.Footprints.{contains, statement_bits}
 use Rattle.vs_design.specs.Sizes.{statement_weight}
@@ -34,7 +34,7 @@ pub record IsNext (count mark : ℕ) (st : Statement) (calls : List Call) (env :
   pub below : All (λ slot. slot < top) env
   pub kept : (b : ℕ) → contains (statement_bits st) b ≡ false → slice_index env b ≡ slice_index (homes count) b
   pub from : (b : ℕ) → b < count → IsNextSlot count mark (slice_index env b)
-  pub values : (before after : State) (state : N.State) → Holds (homes count) before state → AreCalled calls before after → Holds env after (N.write_all state (N.flatten ((body st state).writes ∷ (body st state).updates)))
+  pub values : (before after : State) (state : N.State) → Holds (homes count) before state → AreCalled calls before after → Holds env after (N.write_all state (N.flatten ((body st state).writes ∷ updates_in (body st state))))
 
 -- these calls are added, and the bits' next values are in these slots
 pub record AddsNext (count : ℕ) (old new : Coding) (st : Statement) (env : List ℕ) : Type 0 where

@@ -1,7 +1,7 @@
 -- What the lowering of an asynchronous reset needs and gives (IEEE 1364-2005, 9.9.2).
 use Rattle.std.specs.Prelude.{◌≡◌, ℕ, ◌+◌, ◌<◌, ◌≤◌, ◌^◌, Bool, true, false, List, [], ◌++◌, Option, None, if◌then◌else◌}
 use Rattle.vs_net.specs.Network as N
-use Rattle.vs_design.specs.Bodies.{body}
+use Rattle.vs_design.specs.Bodies.{body, updates_in}
 use Rattle.vs_design.specs.Designs.{Process}
 use Rattle.vs_design.specs.Expressions.{Expression, LogicalNot, Name, Signal, Unary}
 use Rattle.vs_design.specs.Fits.{fits_statement}
@@ -43,7 +43,7 @@ pub record IsResetOf (r : N.Reset) (falls : Bool) (input : ℕ) (st : Statement)
   pub input_is : r.input ≡ input
   pub edge_is : r.edge ≡ (if falls then N.Negedge else N.Posedge)
   pub writes_are : (s : N.State) → (body st s).writes ≡ r.writes
-  pub updates_are : (s : N.State) → (body st s).updates ≡ r.updates
+  pub updates_are : (s : N.State) → updates_in (body st s) ≡ r.updates
 
 -- its block weighs no less
 pub record HasResetRoom (p : Process) (falls : Bool) (input : ℕ) (st : Statement) : Type 0 where

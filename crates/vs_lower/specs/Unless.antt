@@ -1,5 +1,6 @@
--- What the lowering of a block needs and gives that writes a bit both at once and by an update (IEEE 1364-2005, 9.2). Each assignment is lowered by itself, under its bar: a slot that holds 1 where the assignment is not reached. An update waits for the end of the block.
+-- What the lowering of a block needs and gives that writes a bit both at once and by an update (IEEE 1364-2005, 9.2), or whose updates may come in another order than that of the text (9.7.7). Each assignment is lowered by itself, under its bar: a slot that holds 1 where the assignment is not reached. An update waits for the end of the block.
 use Rattle.std.specs.Prelude.{◌≡◌, ◌⊎◌, ℕ, ◌+◌, ◌<◌, ◌≤◌, ◌^◌, Bool, true, false, List, [], ◌∷◌, ◌++◌, map, drop, length, slice_index, sum_by, All, Contains, if◌then◌else◌, IsSome}
+use Rattle.std.specs.List.Sorted.{IsPermutation}
 use Rattle.vs_four.specs.Tables.{is_one}
 use Rattle.vs_net.specs.Network as N
 use Rattle.vs_design.specs.Bodies.{arms_body, body, target_writes}
@@ -23,6 +24,7 @@ use Rattle.vs_values.specs.Templates.{Templated, node_bound}
 use Rattle.vs_lower.specs.Done.{index_values}
 use Rattle.vs_lower.specs.Leaves.{IsInside, leaf_target, leaves_of}
 use Rattle.vs_lower.specs.Parts.{IsPartReady, part_target}
+use Rattle.vs_lower.specs.Sorted.{sorted_by}
 use Rattle.vs_lower.specs.Stated.{ItemsWithin}
 use Rattle.vs_lower.specs.Tested.{AddsTests}
 use Rattle.vs_lower.specs.Written.{AreIndexed, HasRoom, write_weight}
@@ -100,15 +102,16 @@ barred_address address slot = slot ∷ drop 1 address
 
 -- ---- updates that wait
 
--- the update of an assignment: its target, the slots of its indices and of its value, and its bar
+-- the update of an assignment: its target, the slots of its indices and of its value, its bar, and its delay
 pub record Note : Type 0 where
   pub target : Target
   pub at : List (List ℕ)
   pub value : List ℕ
   pub bar : ℕ
+  pub delay : ℕ
 
 abbrev pub note_of : Arena → Update → Note
-note_of a u = record { target = target_tree (tree_at (arena_trees a) u.target); at = u.at.items; value = u.value.items; bar = u.bar }
+note_of a u = record { target = target_tree (tree_at (arena_trees a) u.target); at = u.at.items; value = u.value.items; bar = u.bar; delay = u.delay }
 
 abbrev pub notes_weight : List Note → ℕ
 notes_weight notes = sum_by (λ n. unless_weight n.target) notes
@@ -127,16 +130,36 @@ pub record IsNoteReady (count next : ℕ) (n : Note) : Type 0 where
 abbrev pub HasTargetNode : Templated → Update → Type 0
 HasTargetNode t u = (u.target < node_bound t) × IsSome (target_of (tree_at (arena_trees t.arena) u.target))
 
--- with these values in the slots it does what these writes do: nothing where its bar holds 1
-pub record IsNotedAs (n : Note) (slots : State) (ws : List N.Write) : Type 0 where
+-- the update writes no bit, as none of its target is there
+abbrev pub is_idle : N.Update → Bool
+is_idle [] = true
+is_idle (w ∷ ws) = false
+
+-- the same updates by their delays: those of one delay keep their order
+pub record AreByDelay (us vs : List Update) : Type 0 where
+  pub moved : IsPermutation us vs
+  pub sorted : vs ≡ sorted_by (λ (u : Update). u.delay) us
+
+-- the updates that write a bit
+abbrev pub writing : List N.Delayed → List N.Delayed
+writing [] = []
+writing (d ∷ ds) = if is_idle d.update then writing ds else d ∷ writing ds
+
+-- the updates have this delay
+abbrev pub AreAt : ℕ → List N.Delayed → Type 0
+AreAt delay ds = All (λ (d : N.Delayed). d.delay ≡ delay) ds
+
+-- with these values in the slots it does what these updates do, which have its delay: nothing where its bar holds 1
+pub record IsNotedAs (n : Note) (slots : State) (ds : List N.Delayed) : Type 0 where
   pub state : N.State
   pub indices : vectors slots n.at ≡ index_values n.target state
-  pub does : (base : N.State) → N.write_all base ws ≡ (if is_barred n.bar slots then base else N.write_all base (target_writes n.target (map slots n.value) state))
+  pub delays : AreAt n.delay ds
+  pub does : (base : N.State) → N.write_all base (N.flatten (N.undelayed ds)) ≡ (if is_barred n.bar slots then base else N.write_all base (target_writes n.target (map slots n.value) state))
 
 -- and these, one after the other
-abbrev pub AreNotedAs : List Note → State → List N.Write → Type 0
-AreNotedAs [] slots ws = ws ≡ []
-AreNotedAs (n ∷ ns) slots ws = (first : List N.Write) × (rest : List N.Write) × (ws ≡ first ++ rest) × IsNotedAs n slots first × AreNotedAs ns slots rest
+abbrev pub AreNotedAs : List Note → State → List N.Delayed → Type 0
+AreNotedAs [] slots ds = ds ≡ []
+AreNotedAs (n ∷ ns) slots ds = (first : List N.Delayed) × (rest : List N.Delayed) × (ds ≡ first ++ rest) × IsNotedAs n slots first × AreNotedAs ns slots rest
 
 -- ---- statements
 
@@ -159,7 +182,7 @@ pub record IsUnlessDone (now : List ℕ) (bar mark : ℕ) (run : State → N.Sta
   pub values : (before after : State) (state : N.State) → Holds now before state → AreCalled calls before after
       → Holds now_after after (if is_barred bar before then state else N.write_all state (run before state).writes)
   pub updates : (before after : State) (state : N.State) → Holds now before state → AreCalled calls before after
-      → AreNotedAs notes after (if is_barred bar before then [] else N.flatten (run before state).updates)
+      → AreNotedAs notes after (if is_barred bar before then [] else writing (run before state).updates)
 
 -- what is added for it, behind these updates
 pub record AddsUnless (a : Arena) (now : List ℕ) (bar : ℕ) (old new : Coding) (before after : List Update) (run : State → N.State → N.Effect) (written : List ℕ) (most : ℕ) (now_after : List ℕ) : Type 0 where
@@ -253,8 +276,8 @@ pub record AreMade (env : List ℕ) (mark : ℕ) (notes : List Note) (calls : Li
   pub same_length : length env_after ≡ length env
   pub kept : (b : ℕ) → All (λ n. contains (target_bits n.target) b ≡ false) notes → slice_index env_after b ≡ slice_index env b
   pub from : (now : List ℕ) (first : ℕ) → first ≤ mark → All (IsTakenFrom now first) env → All (λ n. All (IsTakenFrom now first) n.value) notes → All (IsTakenFrom now first) env_after
-  pub values : (before after : State) (base : N.State) (ws : List N.Write) → Holds env before base → AreNotedAs notes before ws → AreCalled calls before after
-      → Holds env_after after (N.write_all base ws)
+  pub values : (before after : State) (base : N.State) (ds : List N.Delayed) → Holds env before base → AreNotedAs notes before ds → AreCalled calls before after
+      → Holds env_after after (N.write_all base (N.flatten (N.undelayed ds)))
 
 pub record AddsMade (env env_after : List ℕ) (old new : Coding) (notes : List Note) : Type 0 where
   pub calls : List Call

@@ -162,7 +162,7 @@ fn store(
     Ok(())
 }
 
-/// Adds the calls of an assignment (IEEE 1364-2005, 9.2), whose right side and indices are evaluated before it writes. Where `later`, it is an update.
+/// Adds the calls of an assignment (IEEE 1364-2005, 9.2), whose right side and indices are evaluated before it writes. Where `later`, it is an update, whatever its delay is.
 pub(crate) fn assign(
     alloc: Global,
     templates: &Templates,
@@ -176,7 +176,7 @@ pub(crate) fn assign(
     requires e { e < node_bound templates.now }
     requires is_target { IsSome (target_of (tree_at (arena_trees templates.now.arena) target)) }
     requires ready { IsAssignReady (length env.old.values) env.old.values env.old.ahead code.old later (target_tree (tree_at (arena_trees templates.now.arena) target)) (tree_at (arena_trees templates.now.arena) e) }
-    ensures adds { OnOk result (AddsRun env.old.values env.old.ahead code.old code.new (λ state. effect_of (not later) (assignment_writes (target_tree (tree_at (arena_trees templates.now.arena) target)) (tree_at (arena_trees templates.now.arena) e) state)) (if later then [] else target_bits (target_tree (tree_at (arena_trees templates.now.arena) target))) (if later then target_bits (target_tree (tree_at (arena_trees templates.now.arena) target)) else []) (assign_most later (target_tree (tree_at (arena_trees templates.now.arena) target)) (tree_at (arena_trees templates.now.arena) e)) env.new.values env.new.ahead) }
+    ensures adds { OnOk result ((delay : ℕ) → AddsRun env.old.values env.old.ahead code.old code.new (λ state. effect_of (not later) delay (assignment_writes (target_tree (tree_at (arena_trees templates.now.arena) target)) (tree_at (arena_trees templates.now.arena) e) state)) (if later then [] else target_bits (target_tree (tree_at (arena_trees templates.now.arena) target))) (if later then target_bits (target_tree (tree_at (arena_trees templates.now.arena) target)) else []) (assign_most later (target_tree (tree_at (arena_trees templates.now.arena) target)) (tree_at (arena_trees templates.now.arena) e)) env.new.values env.new.ahead) }
     ensures values { OnOk result (later ≡ true → env.new.values ≡ env.old.values) }
     ensures ahead { OnOk result (later ≡ false → env.new.ahead ≡ env.old.ahead) }
     ensures sources { OnOk result (later ≡ true → (b : ℕ) → b < length env.old.ahead → (slice_index env.new.ahead b ≡ slice_index env.old.ahead b) ⊎ IsSource env.old.values code.old.next (read_bits (tree_at (arena_trees templates.now.arena) e)) (slice_index env.new.ahead b)) }

@@ -2,17 +2,22 @@
 
 ghost use Rattle.std.specs.Prelude.{◌≡◌, ◌<◌, length, slice_index, IfOk, OnOk, true, false, Bool, List, ℕ};
 ghost use Rattle.vs_design.specs.Designs.{Always, Event, is_clocked};
+ghost use Rattle.vs_design.specs.Fits.{fits_statement};
 ghost use Rattle.vs_design.specs.Footprints.{statement_bits};
+ghost use Rattle.vs_design.specs.Races.{blocking_bits, nonblocking_bits};
 ghost use Rattle.vs_flat.specs.Arena.{bit_count};
 ghost use Rattle.vs_shape.specs.Bodies.{body_of};
 ghost use Rattle.vs_program.specs.Lowered.{IsLayout, Layout};
 ghost use Rattle.vs_values.specs.Templates.{statement_bound};
 ghost use Rattle.vs_lower.specs.Next.{AddsNext, IsNextReady};
 ghost use Rattle.vs_lower.specs.Processed.{AddsProcess, HasShadows, IsBlockReady, IsClockedReady};
+ghost use Rattle.vs_lower.specs.Rising.{IsInOrder};
+ghost use Rattle.vs_lower.specs.Stated.{AreApart};
 
 use crate::copies::{copy_all, copy_home};
 use crate::environments::Environments;
 use crate::reach::reach;
+use crate::rising::rising;
 use crate::statements::{settle, statement, written_bits};
 use crate::unless::{is_doubled, next_unless};
 use std::alloc::{AllocError, Global};
@@ -43,6 +48,23 @@ pub(crate) fn combinational(
     Ok(())
 }
 
+/// Whether updates of a statement may have to wait for the end of their block: of a bit that is written at once too, or behind others in the text that come later.
+fn has_waiting(alloc: Global, templates: &Templates, s: u32) -> Result<bool, AllocError>
+    requires there { s < statement_bound templates.now }
+    requires fits { fits_statement (body_of templates.now.arena s) ≡ true }
+    ensures apart { IfOk result (λ r. r ≡ false → AreApart (blocking_bits (body_of templates.now.arena s)) (nonblocking_bits (body_of templates.now.arena s))) }
+    ensures order { IfOk result (λ r. r ≡ false → IsInOrder (body_of templates.now.arena s)) }
+{
+    reach(templates);
+    match rising(templates, s, Some(0)) {
+        Some(_) => {
+            let doubled = is_doubled(alloc, templates, s)?;
+            Ok(doubled)
+        }
+        None => Ok(true),
+    }
+}
+
 /// Adds the calls of statement s of a clocked block, or of its reset's branch, in a design of `count` bits, and answers the slots of the bits' next values.
 pub(crate) fn next_values(
     alloc: Global,
@@ -58,8 +80,8 @@ pub(crate) fn next_values(
 {
     write_law();
     reach(templates);
-    let doubled = is_doubled(alloc, templates, s)?;
-    if doubled {
+    let waiting = has_waiting(alloc, templates, s)?;
+    if waiting {
         let next = next_unless(alloc, templates, s, count, code)?;
         return Ok(next);
     }

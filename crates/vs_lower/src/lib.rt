@@ -18,6 +18,7 @@ mod named;
 mod parts;
 mod reach;
 mod resets;
+mod rising;
 mod sleepers;
 mod statements;
 mod unless;

@@ -102,6 +102,7 @@ pub(crate) fn statement(
             target,
             expr,
             blocking,
+            ..
         } => {
             assign(alloc, templates, *target, *expr, !*blocking, env, code)?;
             Ok(())

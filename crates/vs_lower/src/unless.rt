@@ -1,6 +1,6 @@
-//! The statements of a block that writes a bit both at once and by an update (IEEE 1364-2005, 9.2).
+//! The statements of a block that writes a bit both at once and by an update (IEEE 1364-2005, 9.2), or whose updates may come in another order than that of the text (9.7.7).
 //!
-//! Each assignment is lowered by itself, under its bar: a slot that holds 1 where the assignment isn't reached. So no branch is joined, and a bit has one value at a time, what stands there now. An update waits with its bar, and the slots of its value and of its indices, until all that the block writes at once is there.
+//! Each assignment is lowered by itself, under its bar: a slot that holds 1 where the assignment isn't reached. So no branch is joined, and a bit has one value at a time, what stands there now. An update waits with its bar, and the slots of its value and of its indices, until all that the block writes at once is there. Then those of a smaller delay are made first.
 
 ghost use Rattle.std.specs.Prelude.{ℕ, ◌≡◌, ◌+◌, ◌<◌, ◌≤◌, ◌^◌, ◌++◌, [], ◌∷◌, map, length, All, IfOk, OnOk, IsSome, true, false};
 ghost use Rattle.std.specs.List.{list_any};
@@ -20,7 +20,7 @@ ghost use Rattle.vs_code.specs.Calls.{length_of};
 ghost use Rattle.vs_values.specs.Added.{IsEnv};
 ghost use Rattle.vs_lower.specs.Next.{AddsNext, IsNextReady};
 ghost use Rattle.vs_lower.specs.Stated.{AreApart};
-ghost use Rattle.vs_lower.specs.Unless.{AddsMade, AddsUnlessArm, AddsUnlessArms, AddsUnlessStatement, AreUnlessArmsReady, HasTargetNode, IsNoteReady, IsUnlessArmReady, IsUnlessReady, note_of, notes_weight};
+ghost use Rattle.vs_lower.specs.Unless.{AddsMade, AddsUnlessArm, AddsUnlessArms, AddsUnlessStatement, AreByDelay, AreUnlessArmsReady, HasTargetNode, IsNoteReady, IsUnlessArmReady, IsUnlessReady, note_of, notes_weight};
 
 use crate::assigns::{Operands, lower_operands};
 use crate::barred::{bar_of, write_unless};
@@ -35,13 +35,14 @@ use vs_flat::{Arm, Statement};
 use vs_shape::{Walk, ascend, is_among};
 use vs_values::{Code, Environment, Templates, lower, own};
 
-/// An update that waits for the end of its block: its target, the slots of its indices and of its value, and its bar.
+/// An update that waits for the end of its block: its target, the slots of its indices and of its value, its bar, and its delay.
 #[derive(Drop)]
 pub(crate) struct Update {
     pub target: u32,
     pub at: Vec<List<u32>>,
     pub value: Vec<u32>,
     pub bar: u32,
+    pub delay: u32,
 }
 
 /// Whether one of these bits is among those, which rise.
@@ -82,6 +83,7 @@ fn assign_unless(
     target: u32,
     e: u32,
     blocking: bool,
+    delay: u32,
     bar: u32,
     env: &mut Environment,
     updates: &mut Vec<Update>,
@@ -90,8 +92,8 @@ fn assign_unless(
     requires target { target < node_bound templates.now }
     requires e { e < node_bound templates.now }
     requires is_target { IsSome (target_of (tree_at (arena_trees templates.now.arena) target)) }
-    requires ready { (place : ℕ) → IsUnlessReady (length env.old) env.old bar code.old (T.Assignment place (target_tree (tree_at (arena_trees templates.now.arena) target)) (tree_at (arena_trees templates.now.arena) e) blocking) }
-    ensures adds { OnOk result ((place : ℕ) → AddsUnlessStatement templates.now.arena env.old bar code.old code.new updates.old.items updates.new.items (T.Assignment place (target_tree (tree_at (arena_trees templates.now.arena) target)) (tree_at (arena_trees templates.now.arena) e) blocking) env.new) }
+    requires ready { (place : ℕ) → IsUnlessReady (length env.old) env.old bar code.old (T.Assignment place (target_tree (tree_at (arena_trees templates.now.arena) target)) (tree_at (arena_trees templates.now.arena) e) blocking delay) }
+    ensures adds { OnOk result ((place : ℕ) → AddsUnlessStatement templates.now.arena env.old bar code.old code.new updates.old.items updates.new.items (T.Assignment place (target_tree (tree_at (arena_trees templates.now.arena) target)) (tree_at (arena_trees templates.now.arena) e) blocking delay) env.new) }
     ensures nodes { OnOk result (All (HasTargetNode templates.now) updates.old.items → All (HasTargetNode templates.now) updates.new.items) }
 {
     reach(templates);
@@ -114,6 +116,7 @@ fn assign_unless(
         at,
         value,
         bar,
+        delay,
     })?;
     Ok(())
 }
@@ -146,9 +149,10 @@ fn unless(
             target,
             expr,
             blocking,
+            delay,
         } => {
             assign_unless(
-                alloc, templates, *target, *expr, *blocking, bar, env, updates, code,
+                alloc, templates, *target, *expr, *blocking, *delay, bar, env, updates, code,
             )?;
             Ok(())
         }
@@ -387,6 +391,14 @@ fn arm_unless(
     Ok(behind)
 }
 
+/// Sorts updates by their delays (IEEE 1364-2005, 9.7.7): those of one delay keep their order.
+fn sort(updates: &mut Vec<Update>) -> Result<(), AllocError>
+    ensures { OnOk result (AreByDelay updates.old.items updates.new.items) }
+{
+    updates.sort_by_key(|update| update.delay)?;
+    Ok(())
+}
+
 /// Adds the calls of updates that wait, one after the other (IEEE 1364-2005, 9.2.2).
 fn make_updates(
     alloc: Global,
@@ -434,6 +446,7 @@ pub(crate) fn next_unless(
     let mut env = Environment::at_home(alloc, count);
     let mut updates = Vec::new(alloc);
     unless(alloc, templates, s, 0, &mut env, &mut updates, code)?;
+    sort(&mut updates)?;
     make_updates(alloc, templates, updates.as_slice(), &mut env, code)?;
     Ok(env)
 }

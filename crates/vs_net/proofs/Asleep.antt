@@ -7,7 +7,7 @@ use Rattle.vs_four.specs.declared.Bit4.TheVariants.{X}
 use Rattle.vs_four.specs.Tables.{same}
 use Rattle.vs_net.specs.Network.{Sleeper, State, Write, put, write_all, is_written, Network, AComb, kind, writes, listens, made}
 use Rattle.vs_net.specs.Solution.{all_x, is_asleep, blank, given}
-use Rattle.vs_net.specs.Lawful.{IsLawful, Settles, times, IsKnown, IsSure}
+use Rattle.vs_net.specs.Lawful.{IsLawful, Settles, times, IsSure}
 use mathlib.Core.Path.{fun_ext}
 use Rattle.vs_net.proofs.Parts.{Agrees, made_off, sure_sleeper}
 use Rattle.vs_net.proofs.Basics.{by_test, same_is, write_all_other, write_all_covered}

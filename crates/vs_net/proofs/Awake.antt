@@ -46,13 +46,13 @@ module _ (n : Network) (L : IsLawful n) (v base : State) (known : IsKnownVector 
     in_as b w e h = subst (λ (x : Bit4). L.late b x ≡ true) (sym e) h
 
     given : (p b : ℕ) → writes (n.process p) b ≡ true → WriterPart n (first_phase (beginning n) v) q p → q.now b ≡ driven (n.process p) (Fall v) (beginning n) b
-    given p b w part = writer_rests n L (first_phase (beginning n) v) q over.0 over.1 p b part w
+    given p b w part = writer_rests n L (first_phase (beginning n) v) q over p b part w
 
     writer_part : (p : ℕ) → IsWriter (kind (n.process p)) → EachFirst p → WriterPart n (first_phase (beginning n) v) q p
     writer_part p u (an_assign k part) = absurd (subst IsWriter k u)
     writer_part p u (an_input k part) = part.writer
     writer_part p u (a_comb k part) = absurd (subst IsWriter k u)
-    writer_part p u (a_clocked k part) = (clocked_rested n L (first_phase (beginning n) v) base Sleeps (good_first (beginning n) v) (λ f. refl) q (calm_of n q over.0) h (settling_arrived n L (first_phase (beginning n) v) base Sleeps (good_first (beginning n) v) (λ f. refl) q (calm_of n q over.0) h (λ r i. over.1 r)) p (λ d. let m = (over.0 p).0 in cc) part).0
+    writer_part p u (a_clocked k part) = (clocked_rested n L (first_phase (beginning n) v) base Sleeps (good_first (beginning n) v) (λ f. refl) q (calm_of n q over.0) h (settling_arrived n L (first_phase (beginning n) v) base Sleeps (good_first (beginning n) v) (λ f. refl) q (calm_of n q over.0) h (λ r i. (over.1 r, over.2 r))) p (λ d. let m = (over.0 p).0 in cc) part).0
 
     -- a register is idle, or has the value of a reset
     register_in : (p b : ℕ) → kind (n.process p) ≡ AClocked → writes (n.process p) b ≡ true → ((r : ℕ) → writes (n.process r) b ≡ true → r ≡ p) → q.now b ≡ driven (n.process p) (Fall v) (beginning n) b → In b

@@ -6,6 +6,7 @@ use Rattle.vs_four.specs.declared.Bit4.{Bit4}
 use Rattle.vs_four.specs.declared.Bit4.TheVariants.{Zero, One}
 use Rattle.vs_net.specs.Network.{Reset, reset_of, to_value, State, Update, write_all, is_written, flatten, Network, Kind, AnInput, TheClock, AnAssign, AComb, AClocked, kind, writes, clock_net, branch}
 use Rattle.vs_net.specs.Queue.{Waiting, Queue, Slot, Fall, Rise, first_mode, start, begun, IsFirst, drive, Mode}
+use Rattle.vs_net.proofs.Delays.{to_come, to_come_waits, to_come_none}
 use Rattle.vs_net.proofs.Quiet.{IsRested}
 use Rattle.vs_net.specs.Solution.{clocked_effects, IsWriter, beginning}
 use Rattle.vs_net.specs.Lawful.{IsLawful, Settles, IsUnknown, IsKnown}
@@ -16,7 +17,7 @@ use Rattle.vs_net.proofs.Asleep.{Began, awake, asleep, AsleepAt}
 use Rattle.vs_net.proofs.Nets.{Family, nets, clock_net_family, reset_net_family}
 use Rattle.vs_net.proofs.Phases.{is_unknown, is_one, is_zero, moves, moved_or_not, early_phase, falling, rising, clocked_begins}
 use Rattle.vs_net.proofs.Levels.{same_writer}
-use Rattle.vs_net.proofs.Settling.{Each, an_assign, an_input, a_comb, a_clocked, CombOk, comb_agrees, comb_asleep, agreed, CombRest, CombPart, ClockedPart, IsInput, Settling, activated, activated_assign, activated_input, once_none}
+use Rattle.vs_net.proofs.Settling.{Each, an_assign, an_input, a_comb, a_clocked, CombOk, comb_agrees, comb_asleep, agreed, CombRest, CombPart, ClockedPart, IsInput, Settling, activated, activate_moves, moved_assign, moved_input, once_none}
 use Rattle.vs_net.proofs.Early.{Early, unstarted, EarlyComb, EarlyClocked}
 use Rattle.vs_net.proofs.Rising.{Rising, RisingComb, RisingClocked, to_rise}
 use Rattle.vs_net.proofs.Drives.{clocked_only, settles_undriven, clocked_undriven, input_rise, level_of, net_drive, clock_drive, drive_own, driven_drive}
@@ -58,8 +59,8 @@ module _ (n : Network) (L : IsLawful n) where
     waits_first : (p : ℕ) → kind (n.process p) ≢ AClocked → q0.waiting p ≡ drive (n.process p) (Fall v)
     waits_first p k = ap (λ (us : List Update). us ++ drive (n.process p) (Fall v)) (L.initial_clocked p k).1
 
-    comes_first : (p : ℕ) → kind (n.process p) ≢ AClocked → q0.active p ++ q0.waiting p ≡ drive (n.process p) (Fall v)
-    comes_first p k = ap (λ (us : List Update). us ++ q0.waiting p) (L.initial_clocked p k).0 ∙ waits_first p k
+    comes_first : (p : ℕ) → kind (n.process p) ≢ AClocked → q0.active p ++ to_come q0 p ≡ drive (n.process p) (Fall v)
+    comes_first p k = ap (λ (us : List Update). us ++ to_come q0 p) (L.initial_clocked p k).0 ∙ to_come_waits q0 p refl ∙ waits_first p k
 
     writer_first : (p : ℕ) → IsInput (kind (n.process p)) → WriterPart n ph0 q0 p
     writer_first p i =
@@ -86,13 +87,14 @@ module _ (n : Network) (L : IsLawful n) where
       own = λ ws h. cc;
       active = (L.initial_clocked p (λ z. cc)).0;
       waiting = waits_first p (λ z. cc) ∙ settles_undriven (n.process p) (Fall v) (subst Settles (sym e) tt);
+      later = refl;
       port = λ c. record { values = λ ws h. cc; later = λ h. absurd (not_zero (first c.to) (first_unknown c.to) h) };
     })
     each_first p AComb e = a_comb e (record {
       ok = unstarted (ap first_mode e) (λ b w. idle_of p b (λ h. cc) w ∙ L.idle_x p b w (λ h. cc));
-      rest = record { pending = refl; active = (L.initial_clocked p (λ z. cc)).0; waiting = waits_first p (λ z. cc) ∙ settles_undriven (n.process p) (Fall v) (subst Settles (sym e) tt) };
+      rest = record { pending = refl; active = (L.initial_clocked p (λ z. cc)).0; waiting = waits_first p (λ z. cc) ∙ settles_undriven (n.process p) (Fall v) (subst Settles (sym e) tt); later = refl };
     })
-    each_first p AClocked e = a_clocked e (record { mode = inl (ap first_mode e); pending = refl; waiting = ap (λ (us : List Update). n.initial_updates p ++ us) (clocked_undriven (n.process p) (Fall v) e) ∙ append-nil (n.initial_updates p) })
+    each_first p AClocked e = a_clocked e (record { mode = inl (ap first_mode e); pending = refl; waiting = ap (λ (us : List Update). n.initial_updates p ++ us) (clocked_undriven (n.process p) (Fall v) e) ∙ append-nil (n.initial_updates p); later = refl })
     each_first p AnInput e = an_input (subst IsInput (sym e) tt) (input_first p (subst IsInput (sym e) tt))
     each_first p TheClock e = an_input (subst IsInput (sym e) tt) (input_first p (subst IsInput (sym e) tt))
 
@@ -113,13 +115,13 @@ module _ (n : Network) (L : IsLawful n) where
   -- a later slot begins where all is at rest
   module _ (q : Queue) (over : IsRested q) (began : (p : ℕ) → Settles (kind (n.process p)) → Began n L q.now p) (slot : Slot) (slots : List Slot) where
     abbrev q1 : Queue
-    q1 = record q { waiting = λ p. drive (n.process p) slot; slots = slots }
+    q1 = record q { waiting = λ p. drive (n.process p) slot; time = 0; slots = slots }
 
     assign_agrees : (p : ℕ) → kind (n.process p) ≡ AnAssign → Agrees n p q.now
     assign_agrees p k = elim (began p (subst Settles (sym k) tt)) [ awake g ↦ g | asleep x e a ↦ absurd (let c = (L.sleepers p x e).comb in cc) ]
 
-    coming_begun : (p : ℕ) → q1.active p ++ q1.waiting p ≡ drive (n.process p) slot
-    coming_begun p = ap (λ (x : List Update). x ++ drive (n.process p) slot) (over.0 p).2
+    coming_begun : (p : ℕ) → q1.active p ++ to_come q1 p ≡ drive (n.process p) slot
+    coming_begun p = ap (λ (x : List Update). x ++ to_come q1 p) (over.0 p).2 ∙ to_come_waits q1 p (over.2 p)
 
     module _ (old : Family → Bit4 → Bool) where
       abbrev ph1 : Phase
@@ -146,11 +148,12 @@ module _ (n : Network) (L : IsLawful n) where
         own = λ ws e. absurd (let m = (over.0 p).1 in cc);
         active = (over.0 p).2;
         waiting = settles_undriven (n.process p) slot (subst Settles (sym k) tt);
+        later = over.2 p;
         port = λ c. record { values = λ ws e. absurd (let m = (over.0 p).1 in cc); later = λ e. alike c.from c.to c.family c.from_net c.to_net ∙ e };
       }
 
       comb_rest : (p : ℕ) → kind (n.process p) ≡ AComb → CombRest q1 p
-      comb_rest p k = record { pending = (over.0 p).1; active = (over.0 p).2; waiting = settles_undriven (n.process p) slot (subst Settles (sym k) tt) }
+      comb_rest p k = record { pending = (over.0 p).1; active = (over.0 p).2; waiting = settles_undriven (n.process p) slot (subst Settles (sym k) tt); later = over.2 p }
 
   -- what the values at the end of a slot keep for the next
   pub record Grounded (clock : Bit4) (before : State) : Type 0 where
@@ -173,8 +176,8 @@ module _ (n : Network) (L : IsLawful n) where
     q_falls v = begun n q (Fall v ∷ slots)
 
     module _ (v : State) (known : (p : ℕ) (e : Reset) → reset_of (n.process p) ≡ Some e → IsKnown (v e.input)) (ones : clock ≡ One) where
-      nothing_comes : (v : State) (p : ℕ) → kind (n.process p) ≡ AClocked → (q_falls v).active p ++ (q_falls v).waiting p ≡ []
-      nothing_comes v p e = ap (λ (us : List Update). us ++ drive (n.process p) (Fall v)) (over.0 p).2 ∙ clocked_undriven (n.process p) (Fall v) e
+      nothing_comes : (v : State) (p : ℕ) → kind (n.process p) ≡ AClocked → (q_falls v).active p ++ to_come (q_falls v) p ≡ []
+      nothing_comes v p e = ap (λ (us : List Update). us ++ to_come (q_falls v) p) (over.0 p).2 ∙ to_come_none (q_falls v) p (clocked_undriven (n.process p) (Fall v) e) (over.2 p)
 
       falls_each : (p : ℕ) (k : Kind) → kind (n.process p) ≡ k → Each n (nets n L) (falling q.now v) (CombPart n (Fall v) q.now q.now (λ p. ⊥)) (ClockedPart n (falling q.now v)) (q_falls v) p
       falls_each p AnAssign e = an_assign e (assign_begun q over began (Fall v) slots (falling q.now v).old alike p e)
@@ -182,9 +185,9 @@ module _ (n : Network) (L : IsLawful n) where
       falls_each p TheClock e = an_input (subst IsInput (sym e) tt) (input_begun q over began (Fall v) slots (falling q.now v).old p (subst IsInput (sym e) tt))
       falls_each p AComb e = a_comb e (record { ok = comb_begins (Fall v) (q_falls v) refl refl p (began p (subst Settles (sym e) tt)); rest = comb_rest q over began (Fall v) slots (falling q.now v).old p e })
       falls_each p AClocked e = a_clocked e (clocked_begins n is_one q.now q.now v (q_falls v) p e (over.0 p).0
-          (record { pending = (over.0 p).1; left = λ b h. absurd (none_written b (subst (λ (us : List Update). is_written (flatten us) b ≡ true) (nothing_comes v p e) h)); bits = λ b w. ap (λ us. write_all q.now (flatten us) b) (nothing_comes v p e) ∙ write_none q.now b })
+          (record { pending = (over.0 p).1; later = over.2 p; left = λ b h. absurd (none_written b (subst (λ (us : List Update). is_written (flatten us) b ≡ true) (nothing_comes v p e) h)); bits = λ b w. ap (λ us. write_all q.now (flatten us) b) (nothing_comes v p e) ∙ write_none q.now b })
           (λ b h. absurd (none_written b (subst (λ (us : List Update). is_written (flatten us) b ≡ true) (nothing_comes v p e) h)))
-          (once_none n ((q_falls v).active p ++ (q_falls v).waiting p) (nothing_comes v p e))
+          (once_none n ((q_falls v).active p ++ to_come (q_falls v) p) (nothing_comes v p e))
           (λ r o. ground.roots r.net r.input (reset_net_family n L p r o))
           (λ r o. (inl (ground.known p r o), known p r o))
           (λ r o h b w. ground.held p r o h b w))
@@ -212,11 +215,11 @@ module _ (n : Network) (L : IsLawful n) where
       olds = (rising q.now).old
 
       rises_each : (p : ℕ) (k : Kind) → kind (n.process p) ≡ k → Each n (nets n L) (rising q.now) (RisingComb n L q.now) (RisingClocked n q.now) (activated q_rises) p
-      rises_each p AnAssign e = an_assign e (activated_assign n L (rising q.now) q_rises over.0 p (assign_begun q over began Rise slots olds alike p e))
-      rises_each p AnInput e = an_input (subst IsInput (sym e) tt) (activated_input n L (rising q.now) q_rises over.0 p (input_begun q over began Rise slots olds p (subst IsInput (sym e) tt)))
-      rises_each p TheClock e = an_input (subst IsInput (sym e) tt) (activated_input n L (rising q.now) q_rises over.0 p (input_begun q over began Rise slots olds p (subst IsInput (sym e) tt)))
-      rises_each p AComb e = a_comb e (record { ok = comb_begins Rise (activated q_rises) refl refl p (began p (subst Settles (sym e) tt)); rest = record { pending = (over.0 p).1; active = settles_undriven (n.process p) Rise (subst Settles (sym e) tt); waiting = refl } })
-      rises_each p AClocked e = a_clocked e (record { pending = (over.0 p).1; active = clocked_undriven (n.process p) Rise e; run = to_rise (over.0 p).0 (ground.clocks (clock_net (n.process p)) (clock_net_family n L p e) ∙ zeros) refl (λ b w. refl) })
+      rises_each p AnAssign e = an_assign e (moved_assign n L (rising q.now) q_rises q_rises.waiting (λ x. []) q_rises.time q_rises.later (activate_moves q_rises over.0) p (assign_begun q over began Rise slots olds alike p e))
+      rises_each p AnInput e = an_input (subst IsInput (sym e) tt) (moved_input n L (rising q.now) q_rises q_rises.waiting (λ x. []) q_rises.time q_rises.later (activate_moves q_rises over.0) p (input_begun q over began Rise slots olds p (subst IsInput (sym e) tt)))
+      rises_each p TheClock e = an_input (subst IsInput (sym e) tt) (moved_input n L (rising q.now) q_rises q_rises.waiting (λ x. []) q_rises.time q_rises.later (activate_moves q_rises over.0) p (input_begun q over began Rise slots olds p (subst IsInput (sym e) tt)))
+      rises_each p AComb e = a_comb e (record { ok = comb_begins Rise (activated q_rises) refl refl p (began p (subst Settles (sym e) tt)); rest = record { pending = (over.0 p).1; active = settles_undriven (n.process p) Rise (subst Settles (sym e) tt); waiting = refl; later = over.2 p } })
+      rises_each p AClocked e = a_clocked e (record { pending = (over.0 p).1; active = clocked_undriven (n.process p) Rise e; run = to_rise (over.0 p).0 (ground.clocks (clock_net (n.process p)) (clock_net_family n L p e) ∙ zeros) (refl, over.2 p) (λ b w. refl) })
 
       rises_nets : NetsIn (nets n L) (rising q.now) (activated q_rises)
       rises_nets c None net = inr (ap is_zero (ground.clocks c net ∙ zeros))
@@ -231,6 +234,6 @@ module _ (n : Network) (L : IsLawful n) where
         };
         frame = λ b h u. refl;
         idle = λ p st off u. ((over.0 p).0, (over.0 p).1);
-        inputs = λ p i. refl;
+        inputs = λ p i. (refl, over.2 p);
         data_inputs = λ p k. input_rise (n.process p) k;
       }

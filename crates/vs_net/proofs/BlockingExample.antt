@@ -5,7 +5,7 @@ use Rattle.std.proofs.lemmas.Bool.{and_parts}
 use Rattle.vs_four.specs.declared.Bit4.{Bit4}
 use Rattle.vs_four.specs.declared.Bit4.TheVariants.{Zero, One, X, Z}
 use Rattle.vs_four.specs.Tables.{not_bit}
-use Rattle.vs_net.specs.Network.{State, Reset, reset_of, is_written, flatten, Input, AnInput, TheClock, AnAssign, AComb, AClocked, kind, writes, listens, clock_net, made, updates, effects}
+use Rattle.vs_net.specs.Network.{State, Reset, reset_of, is_written, flatten, Input, AnInput, TheClock, AnAssign, AComb, AClocked, kind, writes, listens, clock_net, made, updates, effects, but_delay, delayed}
 use Rattle.vs_net.specs.Queue.{start, change, changes, is_held, Choice, IsCompleted, ends, slots_of}
 use Rattle.vs_net.specs.Lawful.{IsLawful, Settles, IsOrdered}
 use Rattle.vs_net.specs.Bound.{fed_by, written_at_once}
@@ -268,6 +268,7 @@ blocking_runs = record {
     fed = fed;
     fed_only = fed_only;
     few = λ p s k. by_clocked (λ x. written_at_once (made (blocking_process x) s) + length (updates (blocking_process x) s) ≤ blocking_size x) (omega arith) (omega arith) p k;
+    prompt = λ p s k e. by_clocked (λ x. but_delay 0 (delayed (blocking_process x) s) ≡ []) refl refl p k;
     input = input_weight;
     clock = λ p k. subst (λ (x : ℕ). blocking_weight x ≡ 1) (sym (clock_kind p k)) refl;
     assign = λ p k. by_settles (λ x. blocking_weight x ≡ 1 + fed_by 5 blocking_feeds blocking_weight x) refl p (assign_settles p k);

@@ -1,10 +1,11 @@
 -- A run that passes the test is a completed run.
 use Rattle.std.proofs.Common.{◌≡◌, ◌≢◌, ℕ, zero, suc, ◌<◌, ◌≤◌, Bool, true, false, not, List, [], ◌∷◌, ◌++◌, ◌&&◌, ◌⊎◌, inl, inr, refl, sym, ap, ◌∙◌, subst, Option, Some, None, is_some, unwrap_or, arith}
-use Rattle.std.proofs.lemmas.Bool.{and_parts, not-true, ltb-true}
-use Rattle.vs_net.specs.Network.{State, Write, Update, put, Input, Network, Kind, AnInput, AnAssign, AComb, AClocked, kind, listens, made, updates}
-use Rattle.vs_net.specs.Queue.{Mode, Unstarted, Waiting, Due, Slot, Fall, Queue, changes, to_write, Choice, Start, Evaluate, Apply, Run, Take, Activate, Next, IsBlock, IsPossible, IsOver, IsCompleted, drive, took, begun, after, first_mode, start}
+use Rattle.std.specs.Prelude.{nat_le}
+use Rattle.std.proofs.lemmas.Bool.{and_parts, not-true, ltb-true, leb-true}
+use Rattle.vs_net.specs.Network.{State, Write, Update, Delayed, at_delay, but_delay, postponed, undelayed, delayed, put, Input, Network, Kind, AnInput, AnAssign, AComb, AClocked, kind, listens, made}
+use Rattle.vs_net.specs.Queue.{Mode, Unstarted, Waiting, Due, Slot, Fall, Queue, changes, to_write, Choice, Start, Evaluate, Apply, Run, Take, Activate, Advance, Next, IsBlock, IsNoSooner, IsPossible, IsOver, IsCompleted, drive, took, begun, after, first_mode, start}
 use Rattle.vs_net.specs.LevelRun.{is_empty}
-use Rattle.vs_net.specs.Checked.{is_unstarted, is_waiting, is_due, is_assign, is_block, is_last, holds_below, is_quiet_at, is_over_at, is_possible, is_completed, TestedRunsComplete}
+use Rattle.vs_net.specs.Checked.{is_unstarted, is_waiting, is_due, is_assign, is_block, is_last, holds_below, is_quiet_at, is_idle_at, is_none, is_over_at, is_no_sooner, is_possible, is_completed, TestedRunsComplete}
 use Rattle.vs_net.proofs.Basics.{by_test, same_number, put-other}
 use Rattle.vs_net.proofs.Waking.{changes_all}
 use Rattle.vs_net.proofs.Quiet.{IsQuiet, still_of}
@@ -71,6 +72,18 @@ filled_of : (us : List Update) → is_empty us ≡ false → us ≢ []
 filled_of [] h e = cc
 filled_of (u ∷ us) h e = cc
 
+none_later_of : (ds : List Delayed) → is_none ds ≡ true → ds ≡ []
+none_later_of [] h = refl
+none_later_of (d ∷ ds) h = cc
+
+some_later_of : (ds : List Delayed) → is_none ds ≡ false → ds ≢ []
+some_later_of [] h e = cc
+some_later_of (d ∷ ds) h e = cc
+
+no_sooner_of : (time : ℕ) (ds : List Delayed) → is_no_sooner time ds ≡ true → IsNoSooner time ds
+no_sooner_of time [] h = tt
+no_sooner_of time (d ∷ ds) h = let a = and_parts (nat_le time d.delay) (is_no_sooner time ds) h in (leb-true time d.delay a.0, no_sooner_of time ds a.1)
+
 last_of : (slots : List Slot) → is_last slots ≡ true → slots ≡ []
 last_of [] h = refl
 last_of (x ∷ xs) h = cc
@@ -86,6 +99,7 @@ module _ (n : Network) (beyond : (p : ℕ) → n.count ≤ p → n.process p ≡
     pending : q.pending p ≡ None
     active : q.active p ≡ []
     waiting : q.waiting p ≡ []
+    later : q.later p ≡ []
 
   abbrev Rests : Queue → Type 0
   Rests q = (p : ℕ) → n.count ≤ p → RestsAt q p
@@ -102,13 +116,23 @@ module _ (n : Network) (beyond : (p : ℕ) → n.count ≤ p → n.process p ≡
     | inr l ↦ ((r p l).mode, (r p l).pending, (r p l).active)
   ]
 
-  over_of : (q : Queue) → Rests q → holds_below n.count (is_over_at q) ≡ true → IsOver n q
-  over_of q r h = (still_of n q (λ p. (both p).0), (λ p. (both p).1))
+  idle_of : (q : Queue) → Rests q → holds_below n.count (is_idle_at q) ≡ true → IsQuiet q × ((p : ℕ) → q.waiting p ≡ [])
+  idle_of q r h = ((λ p. (both p).0), (λ p. (both p).1))
     where
       both : (p : ℕ) → ((q.mode p ≡ Waiting) × (q.pending p ≡ None) × (q.active p ≡ [])) × (q.waiting p ≡ [])
       both p = elim (below_or_not p n.count) [
-        | inl l ↦ let parts = and_parts (is_quiet_at q p) (is_empty (q.waiting p)) (each_below n.count (is_over_at q) h p l) in (quiet_at q p parts.0, empty_of (q.waiting p) parts.1)
+        | inl l ↦ let parts = and_parts (is_quiet_at q p) (is_empty (q.waiting p)) (each_below n.count (is_idle_at q) h p l) in (quiet_at q p parts.0, empty_of (q.waiting p) parts.1)
         | inr l ↦ (((r p l).mode, (r p l).pending, (r p l).active), (r p l).waiting)
+      ]
+
+  over_of : (q : Queue) → Rests q → holds_below n.count (is_over_at q) ≡ true → IsOver n q
+  over_of q r h = (still_of n q (λ p. (all p).0.0), (λ p. (all p).0.1), (λ p. (all p).1))
+    where
+      all : (p : ℕ) → (((q.mode p ≡ Waiting) × (q.pending p ≡ None) × (q.active p ≡ [])) × (q.waiting p ≡ [])) × (q.later p ≡ [])
+      all p = elim (below_or_not p n.count) [
+        | inl l ↦ let over = and_parts (is_idle_at q p) (is_none (q.later p)) (each_below n.count (is_over_at q) h p l) in
+            let parts = and_parts (is_quiet_at q p) (is_empty (q.waiting p)) over.0 in ((quiet_at q p parts.0, empty_of (q.waiting p) parts.1), none_later_of (q.later p) over.1)
+        | inr l ↦ ((((r p l).mode, (r p l).pending, (r p l).active), (r p l).waiting), (r p l).later)
       ]
 
   rests_changes : (ws : List Write) (q : Queue) → Rests q → Rests (changes n q ws)
@@ -119,6 +143,7 @@ module _ (n : Network) (beyond : (p : ℕ) → n.count ≤ p → n.process p ≡
         pending = ap (λ (f : ℕ → Option (List Write)). f p) c.pending ∙ (r p l).pending;
         active = ap (λ (f : ℕ → List Update). f p) c.active ∙ (r p l).active;
         waiting = ap (λ (f : ℕ → List Update). f p) c.waiting ∙ (r p l).waiting;
+        later = ap (λ (f : ℕ → List Delayed). f p) c.later ∙ (r p l).later;
       }
 
   apart_from : (p r : ℕ) → p < n.count → n.count ≤ r → r ≢ p
@@ -126,11 +151,11 @@ module _ (n : Network) (beyond : (p : ℕ) → n.count ≤ p → n.process p ≡
 
   rests_taken : (q : Queue) (p : ℕ) → p < n.count → (us : List Update) → Rests q → Rests (took n q p us)
   rests_taken q p l [] r = r
-  rests_taken q p l (u ∷ us) r = rests_changes u (record q { active = put q.active p us }) (λ x m. record { mode = (r x m).mode; pending = (r x m).pending; active = put-other q.active p us x (apart_from p x l m) ∙ (r x m).active; waiting = (r x m).waiting })
+  rests_taken q p l (u ∷ us) r = rests_changes u (record q { active = put q.active p us }) (λ x m. record { mode = (r x m).mode; pending = (r x m).pending; active = put-other q.active p us x (apart_from p x l m) ∙ (r x m).active; waiting = (r x m).waiting; later = (r x m).later })
 
   rests_begun : (q : Queue) (slots : List Slot) → Rests q → Rests (begun n q slots)
   rests_begun q [] r = r
-  rests_begun q (slot ∷ slots) r = λ p l. record { mode = (r p l).mode; pending = (r p l).pending; active = (r p l).active; waiting = ap (λ x. drive x slot) (beyond p l) }
+  rests_begun q (slot ∷ slots) r = λ p l. record { mode = (r p l).mode; pending = (r p l).pending; active = (r p l).active; waiting = ap (λ x. drive x slot) (beyond p l); later = (r p l).later }
 
   -- a possible step of a process below count, or of the whole queue
   record IsChecked (q : Queue) (c : Choice) : Type 0 where
@@ -143,7 +168,7 @@ module _ (n : Network) (beyond : (p : ℕ) → n.count ≤ p → n.process p ≡
       let l = ltb-true p n.count a.0 in
       record {
         possible = unstarted_of (q.mode p) a.1;
-        rests = λ x m. record { mode = put-other q.mode p Waiting x (apart_from p x l m) ∙ (r x m).mode; pending = (r x m).pending; active = (r x m).active; waiting = (r x m).waiting };
+        rests = λ x m. record { mode = put-other q.mode p Waiting x (apart_from p x l m) ∙ (r x m).mode; pending = (r x m).pending; active = (r x m).active; waiting = (r x m).waiting; later = (r x m).later };
       }
   checked q (Evaluate p) r h =
       let a = and_parts _ _ h in
@@ -151,14 +176,14 @@ module _ (n : Network) (beyond : (p : ℕ) → n.count ≤ p → n.process p ≡
       let l = ltb-true p n.count b.0 in
       record {
         possible = (assign_of (kind (n.process p)) b.1, due_of (q.mode p) a.1);
-        rests = λ x m. record { mode = put-other q.mode p Waiting x (apart_from p x l m) ∙ (r x m).mode; pending = put-other q.pending p (to_write q.now (made (n.process p) q.now)) x (apart_from p x l m) ∙ (r x m).pending; active = (r x m).active; waiting = (r x m).waiting };
+        rests = λ x m. record { mode = put-other q.mode p Waiting x (apart_from p x l m) ∙ (r x m).mode; pending = put-other q.pending p (to_write q.now (made (n.process p) q.now)) x (apart_from p x l m) ∙ (r x m).pending; active = (r x m).active; waiting = (r x m).waiting; later = (r x m).later };
       }
   checked q (Apply p) r h =
       let a = and_parts _ _ h in
       let l = ltb-true p n.count a.0 in
       record {
         possible = a.1;
-        rests = rests_changes (unwrap_or (q.pending p) []) (record q { pending = put q.pending p None }) (λ x m. record { mode = (r x m).mode; pending = put-other q.pending p None x (apart_from p x l m) ∙ (r x m).pending; active = (r x m).active; waiting = (r x m).waiting });
+        rests = rests_changes (unwrap_or (q.pending p) []) (record q { pending = put q.pending p None }) (λ x m. record { mode = (r x m).mode; pending = put-other q.pending p None x (apart_from p x l m) ∙ (r x m).pending; active = (r x m).active; waiting = (r x m).waiting; later = (r x m).later });
       }
   checked q (Run p) r h =
       let a = and_parts _ _ h in
@@ -168,7 +193,7 @@ module _ (n : Network) (beyond : (p : ℕ) → n.count ≤ p → n.process p ≡
       let d = rests_changes (made (n.process p) q.now) q r in
       record {
         possible = (block_of (kind (n.process p)) b.1, due_of (q.mode p) a.1);
-        rests = λ x m. record { mode = put-other done.mode p Waiting x (apart_from p x l m) ∙ (d x m).mode; pending = (d x m).pending; active = (d x m).active; waiting = put-other done.waiting p (done.waiting p ++ updates (n.process p) q.now) x (apart_from p x l m) ∙ (d x m).waiting };
+        rests = λ x m. record { mode = put-other done.mode p Waiting x (apart_from p x l m) ∙ (d x m).mode; pending = (d x m).pending; active = (d x m).active; waiting = put-other done.waiting p (done.waiting p ++ undelayed (at_delay 0 (delayed (n.process p) q.now))) x (apart_from p x l m) ∙ (d x m).waiting; later = put-other done.later p (done.later p ++ postponed done.time (but_delay 0 (delayed (n.process p) q.now))) x (apart_from p x l m) ∙ (d x m).later };
       }
   checked q (Take p) r h =
       let a = and_parts _ _ h in
@@ -179,7 +204,25 @@ module _ (n : Network) (beyond : (p : ℕ) → n.count ≤ p → n.process p ≡
       let some = one_below n.count (λ p. is_empty (q.waiting p)) (not-true _ a.1) in
       record {
         possible = (still_of n q (quiet_of q r a.0), (some.0, filled_of (q.waiting some.0) some.1));
-        rests = λ x m. record { mode = (r x m).mode; pending = (r x m).pending; active = (r x m).waiting; waiting = refl };
+        rests = λ x m. record { mode = (r x m).mode; pending = (r x m).pending; active = (r x m).waiting; waiting = refl; later = (r x m).later };
+      }
+  checked q (Advance time) r h =
+      let a = and_parts _ _ h in
+      let b = and_parts _ _ a.0 in
+      let idle = idle_of q r b.0 in
+      let some = one_below n.count (λ p. is_none (at_delay time (q.later p))) (not-true _ b.1) in
+      record {
+        possible = (
+          (still_of n q idle.0, idle.1),
+          (
+            (some.0, some_later_of (at_delay time (q.later some.0)) some.1),
+            λ p. elim (below_or_not p n.count) [
+              | inl l ↦ no_sooner_of time (q.later p) (each_below n.count (λ x. is_no_sooner time (q.later x)) a.1 p l)
+              | inr l ↦ subst (λ (ds : List Delayed). IsNoSooner time ds) (sym (r p l).later) tt
+            ],
+          ),
+        );
+        rests = λ x m. record { mode = (r x m).mode; pending = (r x m).pending; active = (r x m).active; waiting = ap (λ (ds : List Delayed). undelayed (at_delay time ds)) (r x m).later; later = ap (but_delay time) (r x m).later };
       }
   checked q Next r h =
       let a = and_parts _ _ h in
@@ -198,6 +241,7 @@ module _ (n : Network) (beyond : (p : ℕ) → n.count ≤ p → n.process p ≡
     pending = refl;
     active = (unset p l).0;
     waiting = ap (λ (us : List Update). us ++ drive (n.process p) (Fall v)) (unset p l).1 ∙ ap (λ x. drive x (Fall v)) (beyond p l);
+    later = refl;
   }
 
 pub tested_runs_complete : TestedRunsComplete

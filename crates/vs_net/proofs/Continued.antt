@@ -1,10 +1,10 @@
 -- Every run can be continued to a completed one.
 use Rattle.std.proofs.Common.{◌≡◌, ◌≢◌, ℕ, zero, suc, ◌+◌, ◌<◌, ◌≤◌, Bool, List, [], ◌∷◌, ◌++◌, ◌⊎◌, inl, inr, refl, sym, ap, ◌∙◌, subst, Option, Some, None, is_some, arith}
 use Rattle.std.proofs.lemmas.Bool.{cases_lt}
-use Rattle.vs_net.specs.Network.{State, Write, Update, Network, Kind, AnInput, TheClock, AnAssign, AComb, AClocked, kind}
-use Rattle.vs_net.specs.Queue.{Mode, Unstarted, Waiting, Due, Queue, Slot, Choice, Start, Evaluate, Apply, Run, Take, Activate, Next, IsBlock, IsCompleted, after, begun, start, IsFirst}
+use Rattle.vs_net.specs.Network.{State, Write, Update, Delayed, at_delay, Network, Kind, AnInput, TheClock, AnAssign, AComb, AClocked, kind}
+use Rattle.vs_net.specs.Queue.{Mode, Unstarted, Waiting, Due, Queue, Slot, Choice, Start, Evaluate, Apply, Run, Take, Activate, Advance, Next, IsBlock, IsNoSooner, IsCompleted, after, begun, start, IsFirst}
 use Rattle.vs_net.specs.Lawful.{IsLawful}
-use Rattle.vs_net.specs.LevelRun.{after_all}
+use Rattle.vs_net.specs.LevelRun.{after_all, next_time}
 use Rattle.vs_net.specs.Bound.{IsWeighed, bound, IsPartOfRun}
 use Rattle.vs_net.specs.Laws.{IsKnownVector, AreKnownResets, RunsEnd}
 use Rattle.vs_net.proofs.Basics.{same_number}
@@ -13,6 +13,7 @@ use Rattle.vs_net.proofs.Parts.{IsInput}
 use Rattle.vs_net.proofs.Runs.{input_waits, step_of}
 use Rattle.vs_net.proofs.Sound.{SoundAt, sound_of}
 use Rattle.vs_net.proofs.Counted.{Spent}
+use Rattle.vs_net.proofs.Soonest.{next_none, next_some}
 use Rattle.vs_net.proofs.Bounded.{Place, place_on, place_local, next_place, first_place, count_all}
 
 module _ (n : Network) (L : IsLawful n) (feeds : ℕ → ℕ → Bool) (size w r : ℕ → ℕ) (W : IsWeighed n feeds size w r) where
@@ -54,8 +55,8 @@ module _ (n : Network) (L : IsLawful n) (feeds : ℕ → ℕ → Bool) (size w r
         by_mode Waiting e = by_pending e (q.pending p) refl
         by_mode Due e = by_kind (kind (n.process p)) refl e
 
-    spent : (p : ℕ) → Spent n L feeds size w r W q at.count.1 p
-    spent p = at.count.2.spent p
+    spent : (p : ℕ) → Spent n L feeds size w r W q at.count.2 p
+    spent p = at.count.3.spent p
 
     -- a number that is no process's
     rests_beyond : (p : ℕ) → n.count ≤ p → Resting q p
@@ -85,6 +86,11 @@ module _ (n : Network) (L : IsLawful n) (feeds : ℕ → ℕ → Bool) (size w r
         last [] e f = inr (λ p h. same_number p k (λ x. subst (λ (y : ℕ). q.waiting y ≡ []) (sym x) e) (λ ne. f p (omega arith)))
         last (u ∷ us) e f = inl (k, λ x. cc)
 
+    -- a least time of the updates that come later, or there is none
+    soonest : (o : Option ℕ) → next_time n.count q ≡ o → ((time : ℕ) × ((p : ℕ) × (at_delay time (q.later p) ≢ [])) × ((p : ℕ) → p < n.count → IsNoSooner time (q.later p))) ⊎ ((p : ℕ) → p < n.count → q.later p ≡ [])
+    soonest None e = inr (next_none n.count q e)
+    soonest (Some time) e = let s = next_some n.count q time e in inl (time, s.0, s.1)
+
     -- there is a step, or the slot is over
     progress : Possible q ⊎ IsRested q
     progress = elim (all_rest n.count) [
@@ -92,7 +98,11 @@ module _ (n : Network) (L : IsLawful n) (feeds : ℕ → ℕ → Bool) (size w r
       | inr f ↦ (let quiet : IsQuiet q = (λ p. elim (cases_lt p n.count) [ inl h ↦ f p h | inr h ↦ rests_beyond p h ]) in
           elim (none_wait n.count) [
             | inl x ↦ inl (Activate, (λ y. cc), (quiet, x))
-            | inr g ↦ inr (quiet, λ p. elim (cases_lt p n.count) [ inl h ↦ g p h | inr h ↦ ((spent p).beyond h).1 ])
+            | inr g ↦ (let waits : (p : ℕ) → q.waiting p ≡ [] = (λ p. elim (cases_lt p n.count) [ inl h ↦ g p h | inr h ↦ ((spent p).beyond h).1 ]) in
+                elim (soonest (next_time n.count q) refl) [
+                  | inl t ↦ inl (Advance t.0, (λ y. cc), ((quiet, waits), (t.1, λ p. elim (cases_lt p n.count) [ inl h ↦ t.2 p h | inr h ↦ subst (λ (ds : List Delayed). IsNoSooner t.0 ds) (sym ((spent p).beyond h).2) tt ])))
+                  | inr none ↦ inr (quiet, waits, λ p. elim (cases_lt p n.count) [ inl h ↦ none p h | inr h ↦ ((spent p).beyond h).2 ])
+                ])
           ])
     ]
 
@@ -112,7 +122,7 @@ module _ (n : Network) (L : IsLawful n) (feeds : ℕ → ℕ → Bool) (size w r
   ]
 
   rest_on : (rest : List Slot) (q : Queue) → IsRested q → (at : At q) → at.rest ≡ rest → Ends q
-  rest_on [] q over at e = ([], ((still_of n q over.0, over.1), at.slots ∙ e))
+  rest_on [] q over at e = ([], ((still_of n q over.0, over.1, over.2), at.slots ∙ e))
   rest_on (x ∷ rest) q over at e =
       let slots = at.slots ∙ e in
       let h : IsStep n q Next = (over, λ y. let z = slots in cc) in

@@ -1,16 +1,18 @@
 -- How many steps of each kind a slot has seen.
 use Rattle.std.proofs.Common.{◌≡◌, ◌≢◌, ℕ, ◌+◌, ◌*◌, ◌<◌, ◌≤◌, Bool, true, false, List, [], ◌∷◌, ◌++◌, length, inl, inr, refl, sym, ap, ◌∙◌, subst, Option, Some, None, unwrap_or, arith, if◌then◌else◌, mul-le-mul_right, length-append, ◌⊎◌}
 use Rattle.std.proofs.lemmas.Bool.{both_ways, cond-true, cond-false, cases_lt}
-use Rattle.vs_net.specs.Network.{Reset, reset_of, Write, Update, put, is_written, Process, Network, Kind, AnInput, TheClock, AnAssign, AComb, AClocked, kind, writes, listens, clock_net, made, updates}
+use Rattle.vs_net.specs.Network.{Reset, reset_of, Write, Update, Delayed, at_delay, but_delay, postponed, undelayed, delayed, put, is_written, Process, Network, Kind, AnInput, TheClock, AnAssign, AComb, AClocked, kind, writes, listens, clock_net, made}
 use Rattle.vs_net.specs.Queue.{Mode, Unstarted, Waiting, Due, Queue, changes, to_write, evaluated, applied, ran, started}
-use Rattle.vs_net.proofs.Quiet.{IsQuiet}
+use Rattle.vs_net.proofs.Quiet.{IsQuiet, IsSpent}
+use Rattle.vs_net.proofs.Delays.{length_undelayed, length_updates, length_parted, length_postponed, none_delayed}
 use Rattle.vs_net.specs.Lawful.{IsLawful, Settles}
 use Rattle.vs_net.proofs.Nets.{Family, IsPort, nets, net_writer, some_writer, port_of, clock_net_family, reset_net_family}
-use Rattle.vs_net.specs.Bound.{sum_below, fed_by, IsWeighed, share, bound, written_at_once}
+use Rattle.vs_net.specs.Bound.{sum_below, fed_by, IsWeighed, share, waits_for, bound, written_at_once}
 use Rattle.vs_net.proofs.Levels.{by_order}
 use Rattle.vs_net.proofs.Basics.{by_test, same_number, put-same, put-other}
 use Rattle.vs_net.proofs.Waking.{Woke, stays, wakes, Changed, changes_all}
 use Rattle.vs_net.proofs.Parts.{IsInput, Acts, Own, not_written}
+use Rattle.vs_net.proofs.Settling.{advanced}
 use Rattle.vs_net.proofs.Sums.{sum_le, sum_up, sum_lt, sum_add}
 
 -- the steps taken so far, by process
@@ -79,7 +81,7 @@ module _ (n : Network) (L : IsLawful n) (feeds : ℕ → ℕ → Bool) (size w r
   fed t p = sum_below n.count (λ q. if feeds q p then written (kind (n.process q)) t q else 0)
 
   abbrev pub ups : Queue → ℕ → ℕ
-  ups q p = length (q.active p) + length (q.waiting p)
+  ups q p = length (q.active p) + length (q.waiting p) + length (q.later p)
 
   -- what a process has spent, and may still spend
   pub record Spent (q : Queue) (t : Tally) (p : ℕ) : Type 0 where
@@ -94,7 +96,8 @@ module _ (n : Network) (L : IsLawful n) (feeds : ℕ → ℕ → Bool) (size w r
     pub input : IsInput (kind (n.process p)) → t.takes p + t.bursts p + ups q p ≤ 1
     pub updated : kind (n.process p) ≡ AClocked → t.takes p + t.bursts p + ups q p ≤ t.runs p * size p + (length (n.initial p) + length (n.initial_updates p))
     pub no_takes : Settles (kind (n.process p)) → t.takes p ≡ 0
-    pub beyond : n.count ≤ p → (q.active p ≡ []) × (q.waiting p ≡ [])
+    pub no_later : (kind (n.process p) ≢ AClocked) ⊎ (n.delays p ≡ false) → q.later p ≡ []
+    pub beyond : n.count ≤ p → (q.active p ≡ []) × (q.waiting p ≡ []) × (q.later p ≡ [])
 
   -- what a step of p, which writes `wrote` times, may cost the others
   pub record Less (p wrote : ℕ) (q q' : Queue) (t t' : Tally) : Type 0 where
@@ -111,6 +114,7 @@ module _ (n : Network) (L : IsLawful n) (feeds : ℕ → ℕ → Bool) (size w r
     pub pending : (x : ℕ) → x ≢ p → q'.pending x ≡ q.pending x
     pub active : (x : ℕ) → x ≢ p → q'.active x ≡ q.active x
     pub waiting : (x : ℕ) → x ≢ p → q'.waiting x ≡ q.waiting x
+    pub later : (x : ℕ) → x ≢ p → q'.later x ≡ q.later x
     pub wrote_is : written (kind (n.process p)) t' p ≡ written (kind (n.process p)) t p + wrote
 
   written_same : (k : Kind) (t t' : Tally) (x : ℕ) → t'.applies x ≡ t.applies x → t'.runs x ≡ t.runs x → t'.takes x ≡ t.takes x → t'.bursts x ≡ t.bursts x → written k t' x ≡ written k t x
@@ -162,10 +166,11 @@ module _ (n : Network) (L : IsLawful n) (feeds : ℕ → ℕ → Bool) (size w r
       comb = λ k. (let a = less.runs x ne in let b = less.dues x ne (λ e. cc) in let c = s.comb k in let d = fed_up x in omega arith);
       clocked = λ k y z h g. (let a = less.runs x ne in let b = less.clocked_dues x ne k in let c = s.clocked k y z h g in let d = writer_up (clock_net (n.process x)) y h in let e = reset_up (reset_of (n.process x)) z g in omega arith);
       no_runs = λ k l. less.runs x ne ∙ s.no_runs k l;
-      input = λ i. (let a = less.takes x ne in let g = less.bursts x ne in let b = ap length (less.active x ne) in let c = ap length (less.waiting x ne) in let d = s.input i in omega arith);
-      updated = λ k. (let a = less.takes x ne in let g = less.bursts x ne in let b = ap length (less.active x ne) in let c = ap length (less.waiting x ne) in let d = s.updated k in let e = ap (λ (z : ℕ). z * size x) (less.runs x ne) in omega arith);
+      input = λ i. (let a = less.takes x ne in let g = less.bursts x ne in let b = ap length (less.active x ne) in let c = ap length (less.waiting x ne) in let e = ap length (less.later x ne) in let d = s.input i in omega arith);
+      updated = λ k. (let a = less.takes x ne in let g = less.bursts x ne in let b = ap length (less.active x ne) in let c = ap length (less.waiting x ne) in let f = ap length (less.later x ne) in let d = s.updated k in let e = ap (λ (z : ℕ). z * size x) (less.runs x ne) in omega arith);
       no_takes = λ k. less.takes x ne ∙ s.no_takes k;
-      beyond = λ h. (less.active x ne ∙ (s.beyond h).0, less.waiting x ne ∙ (s.beyond h).1);
+      no_later = λ k. less.later x ne ∙ s.no_later k;
+      beyond = λ h. (less.active x ne ∙ (s.beyond h).0, less.waiting x ne ∙ (s.beyond h).1, less.later x ne ∙ (s.beyond h).2);
     }
 
   -- a step that writes
@@ -231,6 +236,7 @@ module _ (n : Network) (L : IsLawful n) (feeds : ℕ → ℕ → Bool) (size w r
       pending = λ x ne. refl;
       active = λ x ne. refl;
       waiting = λ x ne. refl;
+      later = λ x ne. refl;
       wrote_is = (let a = written_same (kind (n.process p)) t t_start p refl refl refl refl in omega arith);
     }
 
@@ -251,6 +257,7 @@ module _ (n : Network) (L : IsLawful n) (feeds : ℕ → ℕ → Bool) (size w r
           input = s.input;
           updated = s.updated;
           no_takes = s.no_takes;
+          no_later = s.no_later;
           beyond = s.beyond;
         }
 
@@ -277,6 +284,7 @@ module _ (n : Network) (L : IsLawful n) (feeds : ℕ → ℕ → Bool) (size w r
       pending = λ x ne. put-other q.pending p (to_write q.now (made (n.process p) q.now)) x ne;
       active = λ x ne. refl;
       waiting = λ x ne. refl;
+      later = λ x ne. refl;
       wrote_is = (let a = written_same (kind (n.process p)) t t_eval p refl refl refl refl in omega arith);
     }
 
@@ -303,6 +311,7 @@ module _ (n : Network) (L : IsLawful n) (feeds : ℕ → ℕ → Bool) (size w r
           input = λ i. s.input i;
           updated = λ l. absurd cc;
           no_takes = s.no_takes;
+          no_later = s.no_later;
           beyond = s.beyond;
         }
 
@@ -340,6 +349,7 @@ module _ (n : Network) (L : IsLawful n) (feeds : ℕ → ℕ → Bool) (size w r
       pending = a.pending;
       active = a.active;
       waiting = a.waiting;
+      later = a.later;
       wrote_is = subst (λ (z : Kind). written z t_apply p ≡ written z t p + 1) (sym k) (more-same t.applies p);
     }
 
@@ -351,6 +361,7 @@ module _ (n : Network) (L : IsLawful n) (feeds : ℕ → ℕ → Bool) (size w r
         let p0 = ap pends (ap (λ (f : ℕ → Option (List Write)). f p) apply_ch.pending ∙ put-same q.pending p None) in
         let a0 = ap (λ (f : ℕ → List Update). f p) apply_ch.active in
         let w0 = ap (λ (f : ℕ → List Update). f p) apply_ch.waiting in
+        let l0 = ap (λ (f : ℕ → List Delayed). f p) apply_ch.later in
         let fm = fed_more p 1 q q_a t t_apply apply_less p in
         record {
           starts = (let b = s.starts in omega arith);
@@ -361,10 +372,11 @@ module _ (n : Network) (L : IsLawful n) (feeds : ℕ → ℕ → Bool) (size w r
           comb = λ l. absurd cc;
           clocked = λ l x y f g. absurd cc;
           no_runs = s.no_runs;
-          input = λ i. (let b = s.input i in let c = ap length a0 in let d = ap length w0 in omega arith);
+          input = λ i. (let b = s.input i in let c = ap length a0 in let d = ap length w0 in let g = ap length l0 in omega arith);
           updated = λ l. absurd cc;
           no_takes = s.no_takes;
-          beyond = λ l. (a0 ∙ (s.beyond l).0, w0 ∙ (s.beyond l).1);
+          no_later = λ l. l0 ∙ s.no_later l;
+          beyond = λ l. (a0 ∙ (s.beyond l).0, w0 ∙ (s.beyond l).1, l0 ∙ (s.beyond l).2);
         }
 
   -- run a combinational block
@@ -393,8 +405,18 @@ module _ (n : Network) (L : IsLawful n) (feeds : ℕ → ℕ → Bool) (size w r
       pending = a.pending;
       active = a.active;
       waiting = a.waiting;
+      later = a.later;
       wrote_is = subst (λ (z : Kind). written z t_run p ≡ written z t p + 1) (sym k) (more-same t.runs p);
     }
+
+    -- no update comes later
+    comb_later : q_r.later p ≡ []
+    comb_later =
+        let us = delayed (n.process p) q.now in
+        let done = changes n q (made (n.process p) q.now) in
+        put-same done.later p (done.later p ++ postponed done.time (but_delay 0 us))
+        ∙ ap (λ (x : List Delayed). x ++ postponed done.time (but_delay 0 us)) (ap (λ (f : ℕ → List Delayed). f p) run_ch.later ∙ s.no_later (inl (λ e. cc)))
+        ∙ ap (λ (ds : List Delayed). postponed done.time (but_delay 0 ds)) (none_delayed us (L.comb_updates p q.now k))
 
     pub comb_spent : Spent q_r t_run p
     comb_spent =
@@ -415,6 +437,7 @@ module _ (n : Network) (L : IsLawful n) (feeds : ℕ → ℕ → Bool) (size w r
           input = λ i. absurd (subst IsInput k i);
           updated = λ l. absurd cc;
           no_takes = s.no_takes;
+          no_later = λ l. comb_later;
           beyond = λ l. absurd (let c = ap kind (L.beyond p l) in cc);
         }
 
@@ -474,8 +497,18 @@ module _ (n : Network) (L : IsLawful n) (feeds : ℕ → ℕ → Bool) (size w r
       pending = a.pending;
       active = a.active;
       waiting = a.waiting;
+      later = a.later;
       wrote_is = subst (λ (z : Kind). written z t_clocked p ≡ written z t p + burst) (sym k) (let e = put-same t.bursts p (t.bursts p + burst) in omega arith);
     }
+
+    -- where it gives no delays no update comes later
+    clocked_later : n.delays p ≡ false → q_k.later p ≡ []
+    clocked_later e =
+        let us = delayed (n.process p) q.now in
+        let done = changes n q at_once in
+        put-same done.later p (done.later p ++ postponed done.time (but_delay 0 us))
+        ∙ ap (λ (x : List Delayed). x ++ postponed done.time (but_delay 0 us)) (ap (λ (f : ℕ → List Delayed). f p) clocked_ch.later ∙ s.no_later (inr e))
+        ∙ ap (postponed done.time) (W.prompt p q.now k e)
 
     pub clocked_spent : Spent q_k t_clocked p
     clocked_spent =
@@ -497,11 +530,20 @@ module _ (n : Network) (L : IsLawful n) (feeds : ℕ → ℕ → Bool) (size w r
           input = λ i. absurd (subst IsInput k i);
           updated = λ l.
               (let b = s.updated l in
-              let c = ap length (put-same (changes n q at_once).waiting p ((changes n q at_once).waiting p ++ updates (n.process p) q.now)) ∙ length-append ((changes n q at_once).waiting p) (updates (n.process p) q.now) in
+              let us = delayed (n.process p) q.now in
+              let done = changes n q at_once in
+              let c = ap length (put-same done.waiting p (done.waiting p ++ undelayed (at_delay 0 us))) ∙ length-append (done.waiting p) (undelayed (at_delay 0 us)) in
               let c0 = ap length (ap (λ (f : ℕ → List Update). f p) clocked_ch.waiting) in
+              let c1 = ap length (put-same done.later p (done.later p ++ postponed done.time (but_delay 0 us))) ∙ length-append (done.later p) (postponed done.time (but_delay 0 us)) in
+              let c2 = ap length (ap (λ (f : ℕ → List Delayed). f p) clocked_ch.later) in
+              let g = length_undelayed (at_delay 0 us) in
+              let g0 = length_postponed done.time (but_delay 0 us) in
+              let g1 = length_parted 0 us in
+              let g2 = length_updates us in
               let d = W.few p q.now k in
               let f = ap (λ (z : ℕ). z * size p) e1 in omega arith);
           no_takes = λ l. absurd (subst Settles k l);
+          no_later = λ l. elim l [ inl x ↦ absurd (x k) | inr e ↦ clocked_later e ];
           beyond = λ l. absurd (let c = ap kind (L.beyond p l) in cc);
         }
 
@@ -544,6 +586,7 @@ module _ (n : Network) (L : IsLawful n) (feeds : ℕ → ℕ → Bool) (size w r
       pending = a.pending;
       active = a.active;
       waiting = a.waiting;
+      later = a.later;
       wrote_is = takes_written (kind (n.process p)) k;
     }
 
@@ -554,6 +597,7 @@ module _ (n : Network) (L : IsLawful n) (feeds : ℕ → ℕ → Bool) (size w r
         let e1 = more-same t.takes p in
         let a0 = ap length (ap (λ (f : ℕ → List Update). f p) take_ch.active ∙ put-same q.active p us) in
         let w0 = ap length (ap (λ (f : ℕ → List Update). f p) take_ch.waiting) in
+        let l0 = ap length (ap (λ (f : ℕ → List Delayed). f p) take_ch.later) in
         let b0 : length (q.active p) ≡ length us + 1 = ap length e ∙ longer us in
         record {
           starts = (let b = s.starts in omega arith);
@@ -567,6 +611,7 @@ module _ (n : Network) (L : IsLawful n) (feeds : ℕ → ℕ → Bool) (size w r
           input = λ i. (let b = s.input i in omega arith);
           updated = λ l. (let b = s.updated l in omega arith);
           no_takes = λ l. absurd (k l);
+          no_later = λ l. ap (λ (f : ℕ → List Delayed). f p) take_ch.later ∙ s.no_later l;
           beyond = λ l. absurd (let z = (s.beyond l).0 in cc);
         }
       where
@@ -594,21 +639,67 @@ module _ (n : Network) (L : IsLawful n) (feeds : ℕ → ℕ → Bool) (size w r
           input = λ i. (let b = o.input i in omega arith);
           updated = λ l. (let b = o.updated l in omega arith);
           no_takes = o.no_takes;
-          beyond = λ l. ((o.beyond l).1, refl);
+          no_later = o.no_later;
+          beyond = λ l. ((o.beyond l).1, refl, (o.beyond l).2);
+        }
+
+  -- a later time comes
+  module _ (q : Queue) (t : Tally) (time : ℕ) (spent : IsSpent q) (s : (p : ℕ) → Spent q t p) where
+    pub advance_spent : (p : ℕ) → Spent (advanced q time) t p
+    advance_spent p =
+        let z = ap length (spent.1 p) in
+        let y = length_undelayed (at_delay time (q.later p)) in
+        let x = length_parted time (q.later p) in
+        let o = s p in
+        record {
+          starts = o.starts;
+          evals = o.evals;
+          applies = o.applies;
+          no_evals = o.no_evals;
+          no_applies = o.no_applies;
+          comb = o.comb;
+          clocked = o.clocked;
+          no_runs = o.no_runs;
+          input = λ i. (let b = o.input i in omega arith);
+          updated = λ l. (let b = o.updated l in omega arith);
+          no_takes = o.no_takes;
+          no_later = λ l. ap (but_delay time) (o.no_later l);
+          beyond = λ l. ((o.beyond l).0, ap (λ (ds : List Delayed). undelayed (at_delay time ds)) (o.beyond l).2, ap (but_delay time) (o.beyond l).2);
         }
 
   -- what is active or was taken
   abbrev pub went_active : Queue → Tally → ℕ → ℕ
   went_active q t p = t.takes p + length (q.active p)
 
+  -- of a clocked block with delays what waits, is active or was taken
+  abbrev pub comes : Bool → Kind → Queue → Tally → ℕ → ℕ
+  comes true AClocked q t p = t.takes p + length (q.active p) + length (q.waiting p)
+  comes _ _ q t p = 0
+
+  pub comes_le : (d : Bool) (z : Kind) (q q' : Queue) (t t' : Tally) (p : ℕ) → t.takes p + length (q.active p) + length (q.waiting p) ≤ t'.takes p + length (q'.active p) + length (q'.waiting p) → comes d z q t p ≤ comes d z q' t' p
+  comes_le true AClocked q q' t t' p h = h
+  comes_le true AnInput q q' t t' p h = omega arith
+  comes_le true TheClock q q' t t' p h = omega arith
+  comes_le true AnAssign q q' t t' p h = omega arith
+  comes_le true AComb q q' t t' p h = omega arith
+  comes_le false AClocked q q' t t' p h = omega arith
+  comes_le false AnInput q q' t t' p h = omega arith
+  comes_le false TheClock q q' t t' p h = omega arith
+  comes_le false AnAssign q q' t t' p h = omega arith
+  comes_le false AComb q q' t t' p h = omega arith
+
+  abbrev pub all_comes : Queue → Tally → ℕ → ℕ
+  all_comes q t p = comes (n.delays p) (kind (n.process p)) q t p
+
   abbrev pub steps_of : Tally → ℕ → ℕ
   steps_of t p = t.starts p + t.evals p + t.applies p + t.runs p + t.takes p
 
-  -- what is counted: each step by its process, and no more activations than active updates
-  pub record Counted (q : Queue) (steps acts : ℕ) (t : Tally) : Type 0 where
+  -- what is counted: each step by its process, no more activations than active updates, and no more later times than updates of clocked blocks with delays
+  pub record Counted (q : Queue) (steps acts times : ℕ) (t : Tally) : Type 0 where
     pub spent : (p : ℕ) → Spent q t p
     pub acts_few : acts ≤ sum_below n.count (went_active q t)
-    pub total : steps ≡ sum_below n.count (steps_of t) + acts
+    pub times_few : times ≤ sum_below n.count (all_comes q t)
+    pub total : steps ≡ sum_below n.count (steps_of t) + acts + times
 
   -- each process at its level writes no more than its weight
   module _ (q : Queue) (t : Tally) (s : (p : ℕ) → Spent q t p) where
@@ -738,12 +829,27 @@ module _ (n : Network) (L : IsLawful n) (feeds : ℕ → ℕ → Bool) (size w r
           let a = clocked_within p k in let b = (s p).no_evals (λ e. cc) in let c = (s p).no_applies (λ e. cc) in
           let e = (s p).starts in let f = ap blocks k in omega arith
 
-  pub bounded : (q : Queue) (steps acts : ℕ) (t : Tally) → Counted q steps acts t → ((p : ℕ) → Settles (kind (n.process p)) → q.active p ≡ []) → steps ≤ bound n w r
-  bounded q steps acts t c none =
+      -- nor more later times
+      later_shared : (p : ℕ) (d : Bool) (z : Kind) → kind (n.process p) ≡ z → comes d z q t p ≤ waits_for d (w p)
+      later_shared p true AClocked k = let a = clocked_within p k in omega arith
+      later_shared p true AnInput k = omega arith
+      later_shared p true TheClock k = omega arith
+      later_shared p true AnAssign k = omega arith
+      later_shared p true AComb k = omega arith
+      later_shared p false AClocked k = omega arith
+      later_shared p false AnInput k = omega arith
+      later_shared p false TheClock k = omega arith
+      later_shared p false AnAssign k = omega arith
+      later_shared p false AComb k = omega arith
+
+  pub bounded : (q : Queue) (steps acts times : ℕ) (t : Tally) → Counted q steps acts times t → ((p : ℕ) → Settles (kind (n.process p)) → q.active p ≡ []) → steps ≤ bound n w r
+  bounded q steps acts times t c none =
       let a = c.total in
       let b = c.acts_few in
+      let g = c.times_few in
       let d = sum_add n.count (steps_of t) (went_active q t) in
-      let e = sum_le n.count (λ x. steps_of t x + went_active q t x) (λ x. share (kind (n.process x)) (w x) (r x)) (λ x l. shared q t c.spent none x (kind (n.process x)) refl) in
+      let f = sum_add n.count (λ x. steps_of t x + went_active q t x) (all_comes q t) in
+      let e = sum_le n.count (λ x. steps_of t x + went_active q t x + all_comes q t x) (λ x. share (kind (n.process x)) (w x) (r x) + waits_for (n.delays x) (w x)) (λ x l. let y = shared q t c.spent none x (kind (n.process x)) refl in let z = later_shared q t c.spent none x (n.delays x) (kind (n.process x)) refl in omega arith) in
       omega arith
 
   -- a step by a process
@@ -752,27 +858,35 @@ module _ (n : Network) (L : IsLawful n) (feeds : ℕ → ℕ → Bool) (size w r
     pub self : Spent q' t' p
     pub grows : steps_of t' p ≡ steps_of t p + 1
     pub went : went_active q t p ≤ went_active q' t' p
+    pub came : all_comes q t p ≤ all_comes q' t' p
 
-  pub counted_step : (p wrote : ℕ) (q q' : Queue) (t t' : Tally) (steps acts : ℕ) → Stepped p wrote q q' t t' → Counted q steps acts t → Counted q' (steps + 1) acts t'
-  counted_step p wrote q q' t t' steps acts st c = record {
+  pub counted_step : (p wrote : ℕ) (q q' : Queue) (t t' : Tally) (steps acts times : ℕ) → Stepped p wrote q q' t t' → Counted q steps acts times t → Counted q' (steps + 1) acts times t'
+  counted_step p wrote q q' t t' steps acts times st c = record {
     spent = all_spent p wrote q q' t t' st.less c.spent st.self;
     acts_few = (let a = sum_le n.count (went_active q t) (went_active q' t') (λ x l. same_number x p
         (λ e. subst (λ (z : ℕ). went_active q t z ≤ went_active q' t' z) (sym e) st.went)
         (λ ne. let a = st.less.takes x ne in let b = ap length (st.less.active x ne) in omega arith)) in
         let b = c.acts_few in omega arith);
+    times_few = (let a = sum_le n.count (all_comes q t) (all_comes q' t') (λ x l. same_number x p
+        (λ e. subst (λ (z : ℕ). all_comes q t z ≤ all_comes q' t' z) (sym e) st.came)
+        (λ ne. comes_le (n.delays x) (kind (n.process x)) q q' t t' x (let a = st.less.takes x ne in let b = ap length (st.less.active x ne) in let d = ap length (st.less.waiting x ne) in omega arith))) in
+        let b = c.times_few in omega arith);
     total = (let a = sum_up n.count p 1 (steps_of t) (steps_of t') st.less.within (λ x ne. steps_same x ne) st.grows in let b = c.total in omega arith);
   }
     where
       steps_same : (x : ℕ) → x ≢ p → steps_of t' x ≡ steps_of t x
       steps_same x ne = let a = st.less.starts x ne in let b = st.less.evals x ne in let c = st.less.applies x ne in let d = st.less.runs x ne in let e = st.less.takes x ne in omega arith
 
-  pub counted_activate : (q : Queue) (t : Tally) (steps acts p : ℕ) (quiet : IsQuiet q) → q.waiting p ≢ [] → Counted q steps acts t → Counted (record q { active = q.waiting; waiting = λ x. [] }) (steps + 1) (acts + 1) t
-  counted_activate q t steps acts p quiet ne c = record {
+  pub counted_activate : (q : Queue) (t : Tally) (steps acts times p : ℕ) (quiet : IsQuiet q) → q.waiting p ≢ [] → Counted q steps acts times t → Counted (record q { active = q.waiting; waiting = λ x. [] }) (steps + 1) (acts + 1) times t
+  counted_activate q t steps acts times p quiet ne c = record {
     spent = activate_spent q t quiet c.spent;
     acts_few = (let a = sum_lt n.count p (went_active q t) (went_active (record q { active = q.waiting; waiting = λ x. [] }) t) in_count
         (λ x. let b = ap length (quiet x).2 in omega arith)
         (let b = ap length (quiet p).2 in let d = some_waits (q.waiting p) ne in omega arith) in
         let b = c.acts_few in omega arith);
+    times_few = (let a = sum_le n.count (all_comes q t) (all_comes (record q { active = q.waiting; waiting = λ x. [] }) t)
+        (λ x l. comes_le (n.delays x) (kind (n.process x)) q (record q { active = q.waiting; waiting = λ y. [] }) t t x (let b = ap length (quiet x).2 in omega arith)) in
+        let b = c.times_few in omega arith);
     total = (let a = c.total in omega arith);
   }
     where
@@ -782,3 +896,33 @@ module _ (n : Network) (L : IsLawful n) (feeds : ℕ → ℕ → Bool) (size w r
 
       in_count : p < n.count
       in_count = elim (cases_lt p n.count) [ inl h ↦ h | inr h ↦ absurd (ne ((c.spent p).beyond h).1) ]
+
+  pub counted_advance : (q : Queue) (t : Tally) (steps acts times time p : ℕ) (spent : IsSpent q) → at_delay time (q.later p) ≢ [] → Counted q steps acts times t → Counted (advanced q time) (steps + 1) acts (times + 1) t
+  counted_advance q t steps acts times time p spent ne c = record {
+    spent = advance_spent q t time spent c.spent;
+    acts_few = c.acts_few;
+    times_few = (let a = sum_lt n.count p (all_comes q t) (all_comes (advanced q time) t) in_count
+        (λ x. comes_le (n.delays x) (kind (n.process x)) q (advanced q time) t t x (let b = ap length (spent.1 x) in omega arith))
+        (more_comes (n.delays p) refl (kind (n.process p)) refl) in
+        let b = c.times_few in omega arith);
+    total = (let a = c.total in omega arith);
+  }
+    where
+      some_at : (ds : List Delayed) → ds ≢ [] → 1 ≤ length ds
+      some_at [] h = absurd (h refl)
+      some_at (d ∷ ds) h = omega arith
+
+      -- an update that comes later is a clocked block's
+      none_at : q.later p ≡ [] → ⊥
+      none_at e = ne (ap (at_delay time) e)
+
+      more_comes : (b : Bool) → n.delays p ≡ b → (z : Kind) → kind (n.process p) ≡ z → comes b z q t p + 1 ≤ comes b z (advanced q time) t p
+      more_comes false g z e = absurd (none_at ((c.spent p).no_later (inr g)))
+      more_comes true g AClocked e = let b = ap length (spent.1 p) in let d = some_at (at_delay time (q.later p)) ne in let f = length_undelayed (at_delay time (q.later p)) in omega arith
+      more_comes true g AnInput e = absurd (none_at ((c.spent p).no_later (inl (λ k. cc))))
+      more_comes true g TheClock e = absurd (none_at ((c.spent p).no_later (inl (λ k. cc))))
+      more_comes true g AnAssign e = absurd (none_at ((c.spent p).no_later (inl (λ k. cc))))
+      more_comes true g AComb e = absurd (none_at ((c.spent p).no_later (inl (λ k. cc))))
+
+      in_count : p < n.count
+      in_count = elim (cases_lt p n.count) [ inl h ↦ h | inr h ↦ absurd (none_at ((c.spent p).beyond h).2) ]

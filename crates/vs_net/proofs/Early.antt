@@ -5,15 +5,16 @@ use Rattle.std.specs.List.{list_any}
 use Rattle.std.proofs.lemmas.Bool.{both_ways}
 use Rattle.vs_four.specs.declared.Bit4.{Bit4}
 use Rattle.vs_four.specs.declared.Bit4.TheVariants.{X, Zero}
-use Rattle.vs_net.specs.Network.{Sleeper, Edge, Posedge, Negedge, to_value, Reset, reset_of, clock_net, State, Network, Kind, AnInput, TheClock, AnAssign, AComb, AClocked, kind, writes, listens, Write, Update, put, write_all, is_written, flatten}
-use Rattle.vs_net.specs.Queue.{Fall, Unstarted, Waiting, Due, Queue, Choice, Start, Evaluate, Apply, Run, Take, Activate, Next, after, IsBlock, evaluated, applied, ran, started, took, changes}
+use Rattle.vs_net.specs.Network.{Sleeper, Edge, Posedge, Negedge, to_value, Reset, reset_of, clock_net, State, Network, Kind, AnInput, TheClock, AnAssign, AComb, AClocked, kind, writes, listens, Write, Update, Delayed, put, write_all, is_written, flatten}
+use Rattle.vs_net.specs.Queue.{Fall, Unstarted, Waiting, Due, Queue, Choice, Start, Evaluate, Apply, Run, Take, Activate, Advance, Next, after, IsBlock, evaluated, applied, ran, started, took, changes}
 use Rattle.vs_net.proofs.Quiet.{IsQuiet, IsRested, IsStep, calm_of}
 use Rattle.vs_net.specs.Solution.{IsWriter, beginning, at_first}
 use Rattle.vs_net.specs.Lawful.{IsLawful, Settles, IsKnown, IsWokenBlock, ReadsIn, times}
 use Rattle.vs_net.proofs.Basics.{by_test, same_number, put-same, put-other, write_all_at, write_none, write_all-append, is_written-append, is_written-append_right, flat_cons}
+use Rattle.vs_net.proofs.Delays.{to_come, to_come_waits}
 use Rattle.vs_net.proofs.Waking.{Woke, stays, wakes, woken_calm, fires, fires_none, Changed, changes_all}
 use Rattle.vs_net.proofs.Parts.{Acts, acts_mode, Agrees, is_due, is_pending, is_settled, Phase, PortOk, agrees_other, not_written, acts_on, acts_active, acts_changes, Own, input_not_clocked}
-use Rattle.vs_net.proofs.Steps.{NetsIn, Calm, Apart, Did, edge_calm, did_nothing, evaluated_self, evaluated_did, applied_is, applied_self, applied_did, ran_did, ran_mode, ran_agrees, ran_waiting, ran_active, ran_pending, did_off_nets}
+use Rattle.vs_net.proofs.Steps.{NetsIn, Calm, Apart, Did, edge_calm, did_nothing, evaluated_self, evaluated_did, applied_is, applied_self, applied_did, ran_did, ran_mode, ran_agrees, ran_waiting, ran_later, ran_active, ran_pending, did_off_nets}
 use Rattle.vs_net.proofs.Levels.{by_order, no_writer, settles, updates as by_updates, writer_of, not_both}
 use Rattle.vs_net.proofs.Settling.{Each, an_assign, an_input, a_comb, a_clocked, Holds, holds_on, CombOk, comb_agrees, comb_sleeps, comb_asleep, sleepless, CombRest, rest_other, CombPart, ClockedPart, IsInput, Settling, some_is, clocked_off, took_waiting, full_is}
 use Rattle.vs_net.proofs.Asleep.{never_sleeps, never_times}
@@ -39,6 +40,7 @@ pub record EarlyClocked (n : Network) (q : Queue) (p : ℕ) : Type 0 where
   pub mode : (q.mode p ≡ Unstarted) ⊎ (q.mode p ≡ Waiting)
   pub pending : q.pending p ≡ None
   pub waiting : q.waiting p ≡ n.initial_updates p
+  pub later : q.later p ≡ []
 
 pub record Early (n : Network) (L : IsLawful n) (ph : Phase) (q : Queue) : Type 0 where
   pub holds : Holds n L ph (EarlyComb n) (EarlyClocked n) q
@@ -125,6 +127,7 @@ module _ (n : Network) (L : IsLawful n) (v : State) where
                 mode = (let m = clocked_calm r ne k in elim part.mode [ inl u ↦ inl (m ∙ u) | inr w ↦ inr (m ∙ w) ]);
                 pending = did.acts.pending r ne ∙ part.pending;
                 waiting = did.acts.waiting r ne ∙ part.waiting;
+                later = did.acts.later r ne ∙ part.later;
               })
               self early.holds;
           none = λ r k. same_number r p (λ e. subst (λ (x : ℕ). q'.active x ≡ []) (sym e) (no_active (λ z. k (subst (λ (x : ℕ). kind (n.process x) ≡ AClocked) (sym e) z)))) (λ ne. did.acts.active r ne ∙ early.none r k);
@@ -155,10 +158,10 @@ module _ (n : Network) (L : IsLawful n) (v : State) where
   start_step q p (an_input k part) u early = absurd (let m = part.mode in cc)
   start_step q p (a_comb k part) u early =
       started_on q p early
-      (a_comb k (record { ok = unrun (put-same q.mode p Waiting) (elim part.ok [ unstarted m x ↦ x | early_due d none ↦ absurd cc | unrun m x ↦ x | has_run m g none ↦ absurd cc ]); rest = record { pending = part.rest.pending; active = part.rest.active; waiting = part.rest.waiting } }))
+      (a_comb k (record { ok = unrun (put-same q.mode p Waiting) (elim part.ok [ unstarted m x ↦ x | early_due d none ↦ absurd cc | unrun m x ↦ x | has_run m g none ↦ absurd cc ]); rest = record { pending = part.rest.pending; active = part.rest.active; waiting = part.rest.waiting; later = part.rest.later } }))
   start_step q p (a_clocked k part) u early =
       started_on q p early
-      (a_clocked k (record { mode = inr (put-same q.mode p Waiting); pending = part.pending; waiting = part.waiting }))
+      (a_clocked k (record { mode = inr (put-same q.mode p Waiting); pending = part.pending; waiting = part.waiting; later = part.later }))
 
   evaluate_step : (q : Queue) (p : ℕ) → EachEarly q p → kind (n.process p) ≡ AnAssign → Early n L ph q → Early n L ph (evaluated n q p)
   evaluate_step q p (an_assign k part) a early =
@@ -193,7 +196,7 @@ module _ (n : Network) (L : IsLawful n) (v : State) where
       early_same p q (ran n q p) (λ x c. absurd (subst IsInput k x)) (ran_did n L ph p q k w nets_in) (λ r ne x e. sleepers_deaf p r q (ran n q p) ne (ran_did n L ph p q k w nets_in).acts (λ z. cc) x e)
       (a_comb k (record {
         ok = has_run (ran_mode n L ph p q k w nets_in) (ran_agrees n L ph p q k w nets_in) (elim part.ok [ unstarted m x ↦ absurd cc | early_due e none ↦ none | unrun m x ↦ absurd cc | has_run m g none ↦ absurd cc ]);
-        rest = record { pending = ran_pending n L ph p q k w nets_in ∙ part.rest.pending; active = ran_active n L ph p q k w nets_in ∙ part.rest.active; waiting = ran_waiting n L ph p q k w nets_in };
+        rest = record { pending = ran_pending n L ph p q k w nets_in ∙ part.rest.pending; active = ran_active n L ph p q k w nets_in ∙ part.rest.active; waiting = ran_waiting n L ph p q k w nets_in; later = ran_later n L ph p q k w nets_in part.rest.later };
       }))
       early (ran_active n L ph p q k w nets_in) (ran_waiting n L ph p q k w nets_in ∙ sym w) (λ x c. absurd (subst IsWriter k x))
   run_step q p (a_clocked k part) b d early = absurd (elim part.mode [ inl u ↦ cc | inr m ↦ cc ])
@@ -234,6 +237,7 @@ module _ (n : Network) (L : IsLawful n) (v : State) where
           mode = (let m = took_waiting n L ph q p u us k own_u in elim part.mode [ inl x ↦ inl (m ∙ x) | inr x ↦ inr (m ∙ x) ]);
           pending = ap (λ (f : ℕ → Option (List Write)). f p) ch.pending ∙ part.pending;
           waiting = ap (λ (f : ℕ → List Update). f p) ch.waiting ∙ part.waiting;
+          later = ap (λ (f : ℕ → List Delayed). f p) ch.later ∙ part.later;
         })) early
         (λ x. absurd (x k))
         (ap (λ (f : ℕ → List Update). f p) ch.waiting)
@@ -261,6 +265,7 @@ module _ (n : Network) (L : IsLawful n) (v : State) where
   early_step q (Run p) nn na h early = run_step q p (early.holds.each p) h.0 h.1 early
   early_step q (Take p) nn na h early = take_step q p (early.holds.each p) h early
   early_step q Activate nn na h early = absurd (na refl)
+  early_step q (Advance time) nn na h early = absurd (early.ahead (h.0.1 L.clock))
   early_step q Next nn na h early = absurd (nn refl)
 
   pub early_goes_on : (q : Queue) → IsRested q → Early n L ph q → ⊥
@@ -368,15 +373,15 @@ module _ (n : Network) (L : IsLawful n) (v : State) where
         x_unknown Posedge h = cc
         x_unknown Negedge h = cc
 
-        comes : (p : ℕ) → EarlyClocked n q p → q.active p ++ q.waiting p ≡ n.initial_updates p
-        comes p part = ap (λ (us : List Update). us ++ q.waiting p) (quiet p).2 ∙ part.waiting
+        comes : (p : ℕ) → EarlyClocked n q p → q.active p ++ to_come q p ≡ n.initial_updates p
+        comes p part = ap (λ (us : List Update). us ++ to_come q p) (quiet p).2 ∙ to_come_waits q p part.later ∙ part.waiting
 
         activated_each : (p : ℕ) → EachEarly q p → Each n (nets n L) (first_phase (beginning n) v) (CombPart n (Fall v) (beginning n) q.now Sleeps) (ClockedPart n (first_phase (beginning n) v)) q p
         activated_each p (an_assign k part) = an_assign k (rephase_assign n L ph (EarlyComb n) (EarlyClocked n) q (calm_of n q quiet) early.holds (first_phase (beginning n) v).old (first_phase (beginning n) v).fresh p k part)
         activated_each p (an_input k part) = an_input k (rephase_input n L ph (EarlyComb n) (EarlyClocked n) q (calm_of n q quiet) early.holds (first_phase (beginning n) v).old (first_phase (beginning n) v).fresh p part)
         activated_each p (a_comb k part) = a_comb k (record { ok = comb_activated p k part.ok; rest = part.rest })
         activated_each p (a_clocked k part) = a_clocked k (clocked_begins n is_unknown (λ i. X) (beginning n) v q p k (quiet p).0
-            (record { pending = (quiet p).1; left = λ b h. subst (λ (us : List Update). is_written (flatten us) b ≡ true) (comes p part) h; bits = λ b w. ap (λ us. write_all q.now (flatten us) b) (comes p part) ∙ write_all_at (flatten (n.initial_updates p)) q.now (at_first n) b (begins_at p b (subst IsWriter (sym k) tt) w) ∙ begins_after n L p b w })
+            (record { pending = (quiet p).1; later = part.later; left = λ b h. subst (λ (us : List Update). is_written (flatten us) b ≡ true) (comes p part) h; bits = λ b w. ap (λ us. write_all q.now (flatten us) b) (comes p part) ∙ write_all_at (flatten (n.initial_updates p)) q.now (at_first n) b (begins_at p b (subst IsWriter (sym k) tt) w) ∙ begins_after n L p b w })
             (λ b h. own_initial_updates n L p b (subst (λ (us : List Update). is_written (flatten us) b ≡ true) (comes p part) h))
             (λ r b x e l. let z = never_times (flatten (n.initial_updates p)) b (unset_updates n L p b ((L.sleepers r x e).unset b p l)) in let y = ap (λ (us : List Update). times (flatten us) b) (comes p part) in omega arith)
             (λ e o. root_x e.net e.input (reset_net_family n L p e o))

@@ -5,7 +5,8 @@ use mathlib.Core.Path.{fun_ext}
 use Rattle.std.proofs.lemmas.Bool.{both_ways}
 use Rattle.vs_net.specs.Network.{State, Update, write_all, flatten, Network, Kind, AnInput, TheClock, AnAssign, AComb, AClocked, kind, writes, listens, made}
 use Rattle.vs_net.specs.Queue.{Queue, Due}
-use Rattle.vs_net.proofs.Quiet.{IsQuiet, IsCalm}
+use Rattle.vs_net.proofs.Quiet.{IsRested, IsCalm}
+use Rattle.vs_net.proofs.Delays.{to_come, to_come_none}
 use Rattle.vs_net.specs.Solution.{IsSlotEnd, driven, given, is_asleep, IsWriter}
 use Rattle.vs_four.specs.declared.Bit4.TheVariants.{X}
 use Rattle.vs_net.specs.Lawful.{IsLawful, Settles, IsSure}
@@ -97,6 +98,7 @@ module _ (n : Network) (L : IsLawful n) where
         own = part.own;
         active = part.active;
         waiting = part.waiting;
+        later = part.later;
         port = λ c. record { values = λ ws e. absurd (let z = (calm.assigns p k).1 in cc); later = λ e. sym (port_at p c (h.each p)) ∙ e };
       }
         where
@@ -112,12 +114,12 @@ module _ (n : Network) (L : IsLawful n) where
           rephase_writer : (p : ℕ) → WriterPart n ph q p → WriterPart n rephased q p
           rephase_writer p w = record { pending = w.pending; own = w.own; coming = w.coming }
 
-  nothing_comes : (q : Queue) → IsQuiet q → ((p : ℕ) → q.waiting p ≡ []) → (p : ℕ) → q.active p ++ q.waiting p ≡ []
-  nothing_comes q quiet none p = ap (λ (x : List Update). x ++ q.waiting p) (quiet p).2 ∙ none p
+  nothing_comes : (q : Queue) → IsRested q → (p : ℕ) → q.active p ++ to_come q p ≡ []
+  nothing_comes q over p = ap (λ (x : List Update). x ++ to_come q p) (over.0 p).2 ∙ to_come_none q p (over.1 p) (over.2 p)
 
-  pub writer_rests : (ph : Phase) (q : Queue) → IsQuiet q → ((p : ℕ) → q.waiting p ≡ []) → (p b : ℕ) → WriterPart n ph q p → writes (n.process p) b ≡ true → q.now b ≡ driven (n.process p) ph.slot ph.before b
+  pub writer_rests : (ph : Phase) (q : Queue) → IsRested q → (p b : ℕ) → WriterPart n ph q p → writes (n.process p) b ≡ true → q.now b ≡ driven (n.process p) ph.slot ph.before b
   unfolding write_all flatten
-  writer_rests ph q quiet none p b part w = sym (ap (λ x. write_all q.now (flatten x) b) (nothing_comes q quiet none p)) ∙ part.coming b w
+  writer_rests ph q over p b part w = sym (ap (λ x. write_all q.now (flatten x) b) (nothing_comes q over p)) ∙ part.coming b w
 
   -- where all nets have changed another account of them can begin
   module _ (ph : Phase) (apart : Apart ph) (q : Queue) (arrived : (c : ℕ) (f : Family) → nets n L c ≡ Some f → q.now c ≡ ph.fresh f) where
@@ -130,6 +132,7 @@ module _ (n : Network) (L : IsLawful n) where
       own = part.own;
       active = part.active;
       waiting = part.waiting;
+      later = part.later;
       port = λ c. record {
         values = λ ws e. (let v = (part.port c).values ws e in (
           v.0,
@@ -151,26 +154,26 @@ module _ (n : Network) (L : IsLawful n) where
 
   module _ (ph : Phase) (base : State) (sleeps : ℕ → Type 0) (good : Good ph) (is_level : (f : Family) → ph.fresh f ≡ level_of ph.slot ph.before f) (q : Queue) (calm : IsCalm n q) (h : Settling n L ph base sleeps q) where
     -- where each input's update is taken, each net of a family has changed
-    pub settling_arrived : ((p : ℕ) → IsInput (kind (n.process p)) → q.waiting p ≡ []) → (c : ℕ) (f : Family) → nets n L c ≡ Some f → q.now c ≡ ph.fresh f
+    pub settling_arrived : ((p : ℕ) → IsInput (kind (n.process p)) → (q.waiting p ≡ []) × (q.later p ≡ [])) → (c : ℕ) (f : Family) → nets n L c ≡ Some f → q.now c ≡ ph.fresh f
     settling_arrived none c f net = nets_carry ph (CombPart n ph.slot ph.before base sleeps) (ClockedPart n ph) q calm h f (ph.fresh f) (λ p b net i w. taken p b f net i w (h.each p)) c net
       where
         taken : (p b : ℕ) (f : Family) → nets n L b ≡ Some f → IsInput (kind (n.process p)) → writes (n.process p) b ≡ true → Each n (nets n L) ph (CombPart n ph.slot ph.before base sleeps) (ClockedPart n ph) q p → q.now b ≡ ph.fresh f
-        taken p b f net i w (an_input k part) = comes (ap (λ (x : List Update). x ++ q.waiting p) (calm.active p) ∙ none p i) ∙ driven_level n L ph.slot ph.before p b f net i w ∙ sym (is_level f)
+        taken p b f net i w (an_input k part) = comes (ap (λ (x : List Update). x ++ to_come q p) (calm.active p) ∙ to_come_none q p (none p i).0 (none p i).1) ∙ driven_level n L ph.slot ph.before p b f net i w ∙ sym (is_level f)
           where
-            comes : q.active p ++ q.waiting p ≡ [] → q.now b ≡ driven (n.process p) ph.slot ph.before b
+            comes : q.active p ++ to_come q p ≡ [] → q.now b ≡ driven (n.process p) ph.slot ph.before b
             comes e = sym (ap (λ x. write_all q.now (flatten x) b) e ∙ write_none q.now b) ∙ part.writer.coming b w
         taken p b f net i w (an_assign k' part) = absurd (subst IsInput k' i)
         taken p b f net i w (a_comb k' part) = absurd (subst IsInput k' i)
         taken p b f net i w (a_clocked k' part) = absurd (subst IsInput k' i)
 
     -- then each clocked block has run
-    pub clocked_rested : ((c : ℕ) (f : Family) → nets n L c ≡ Some f → q.now c ≡ ph.fresh f) → (p : ℕ) → q.mode p ≢ Due → ClockedPart n ph q p → WriterPart n ph q p × Once n (flatten (q.active p ++ q.waiting p))
+    pub clocked_rested : ((c : ℕ) (f : Family) → nets n L c ≡ Some f → q.now c ≡ ph.fresh f) → (p : ℕ) → q.mode p ≢ Due → ClockedPart n ph q p → WriterPart n ph q p × Once n (flatten (q.active p ++ to_come q p))
     clocked_rested arrived p nd (clocked_rests m w once past) = (w, once)
     clocked_rested arrived p nd (clocked_fires e f m o u) = absurd (both_ways (ph.old (Some e.input) (ph.fresh (Some e.input))) (good.apart (Some e.input)) (subst (λ (x : Bit4). ph.old (Some e.input) x ≡ true) (arrived e.net (Some e.input) (reset_net_family n L p e f.is_reset)) o))
     clocked_rested arrived p nd (clocked_due e f a o d fr u) = absurd (nd d)
 
-    pub settling_end : IsQuiet q → ((p : ℕ) → q.waiting p ≡ []) → ((p : ℕ) → sleeps p → ((b : ℕ) → listens (n.process p) b ≡ true → q.now b ≡ base b) → Agrees n p q.now) → IsSlotEnd n ph.before ph.slot q.now
-    settling_end quiet none awake =
+    pub settling_end : IsRested q → ((p : ℕ) → sleeps p → ((b : ℕ) → listens (n.process p) b ≡ true → q.now b ≡ base b) → Agrees n p q.now) → IsSlotEnd n ph.before ph.slot q.now
+    settling_end over awake =
         record {
           settled = λ p st sure. settled p st sure (h.each p);
           updated = λ p b w e. updated p b w e (h.each p);
@@ -179,9 +182,9 @@ module _ (n : Network) (L : IsLawful n) where
       where
         updated : (p b : ℕ) → IsWriter (kind (n.process p)) → writes (n.process p) b ≡ true → Each n (nets n L) ph (CombPart n ph.slot ph.before base sleeps) (ClockedPart n ph) q p → q.now b ≡ driven (n.process p) ph.slot ph.before b
         updated p b w e (an_assign k part) = absurd (subst IsWriter k w)
-        updated p b w e (an_input k part) = writer_rests ph q quiet none p b part.writer e
+        updated p b w e (an_input k part) = writer_rests ph q over p b part.writer e
         updated p b w e (a_comb k part) = absurd (subst IsWriter k w)
-        updated p b w e (a_clocked k part) = writer_rests ph q quiet none p b (clocked_rested (settling_arrived (λ r i. none r)) p (λ d. let m = (quiet p).0 in cc) part).0 e
+        updated p b w e (a_clocked k part) = writer_rests ph q over p b (clocked_rested (settling_arrived (λ r i. (over.1 r, over.2 r))) p (λ d. let m = (over.0 p).0 in cc) part).0 e
 
         as_made : (p : ℕ) → kind (n.process p) ≢ AComb → write_all q.now (made (n.process p) q.now) ≡ q.now → write_all q.now (given n ph.before p q.now) ≡ q.now
         as_made p k e = ap (write_all q.now) (given_none n L ph.before q.now p (never_sleeps n L p k)) ∙ e
@@ -199,7 +202,7 @@ module _ (n : Network) (L : IsLawful n) where
             blanks (roused b r l w c ne) g t = absurd (let a = asleep_is n L ph.before q.now p t in ne (sym (as_driven b r w c) ∙ a.listened b l))
 
             by_ok : CombOk n ph.slot ph.before base sleeps q p → write_all q.now (given n ph.before p q.now) ≡ q.now
-            by_ok (comb_due d y) = absurd (let m = (quiet p).0 in cc)
+            by_ok (comb_due d y) = absurd (let m = (over.0 p).0 in cc)
             by_ok (comb_agrees m g y) = by_test (is_asleep (n.sleeper p) ph.before q.now)
                 (λ t. asleep_holds n L ph.before q.now p st t (blanks y g t))
                 (λ t. awake_holds n L ph.before q.now p st t sure g)

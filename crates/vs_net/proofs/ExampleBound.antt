@@ -1,6 +1,6 @@
 -- The weights of the example.
-use Rattle.std.proofs.Common.{◌≡◌, ℕ, zero, suc, ◌+◌, ◌*◌, ◌≤◌, true, ◌==◌, None, length, refl, sym, ◌∙◌, subst, eqb-true, eq-eqb, arith}
-use Rattle.vs_net.specs.Network.{reset_of, State, AnInput, TheClock, AnAssign, AComb, AClocked, kind, writes, listens, clock_net, updates, made}
+use Rattle.std.proofs.Common.{◌≡◌, ℕ, zero, suc, ◌+◌, ◌*◌, ◌≤◌, true, ◌==◌, None, length, refl, sym, ◌∙◌, subst, eqb-true, eq-eqb, arith, []}
+use Rattle.vs_net.specs.Network.{reset_of, State, AnInput, TheClock, AnAssign, AComb, AClocked, kind, writes, listens, clock_net, updates, made, but_delay, delayed}
 use Rattle.vs_net.specs.Bound.{fed_by, written_at_once}
 use Rattle.vs_net.specs.Example.{example_process, example_feeds, example_weight, ExampleIsBounded}
 use Rattle.vs_net.proofs.Example.{no_reset, owner, at_bit, owner_is}
@@ -32,6 +32,15 @@ few (suc (suc (suc zero))) s k = omega arith
 few (suc (suc (suc (suc zero)))) s k = cc
 few (suc (suc (suc (suc (suc zero))))) s k = cc
 few (suc (suc (suc (suc (suc (suc p)))))) s k = cc
+
+prompt : (p : ℕ) (s : State) → kind (example_process p) ≡ AClocked → but_delay 0 (delayed (example_process p) s) ≡ []
+prompt zero s k = cc
+prompt (suc zero) s k = cc
+prompt (suc (suc zero)) s k = cc
+prompt (suc (suc (suc zero))) s k = refl
+prompt (suc (suc (suc (suc zero)))) s k = cc
+prompt (suc (suc (suc (suc (suc zero))))) s k = cc
+prompt (suc (suc (suc (suc (suc (suc p)))))) s k = cc
 
 input : (p : ℕ) → kind (example_process p) ≡ AnInput → example_weight p ≡ 1
 input zero k = cc
@@ -89,6 +98,6 @@ clocked (suc (suc (suc (suc (suc (suc p)))))) k = cc
 
 pub example_is_bounded : ExampleIsBounded
 example_is_bounded = record {
-  weighed = record { fed = fed; fed_only = fed_only; few = few; input = input; clock = clock; assign = assign; comb = comb; clocked_by = clocked_by; reset_by = λ p q x e o w v. absurd (no_reset p e o); clocked = clocked };
+  weighed = record { fed = fed; fed_only = fed_only; few = few; prompt = λ p s k e. prompt p s k; input = input; clock = clock; assign = assign; comb = comb; clocked_by = clocked_by; reset_by = λ p q x e o w v. absurd (no_reset p e o); clocked = clocked };
   bounded = refl;
 }

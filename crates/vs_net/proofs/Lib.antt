@@ -1,6 +1,8 @@
 pub mod Quiet
 pub mod Beginning
 pub mod Basics
+pub mod Delays
+pub mod Soonest
 pub mod Waking
 pub mod Nets
 pub mod Parts
@@ -40,3 +42,4 @@ pub mod BlockingExample
 pub mod InitialExample
 pub mod SelectExample
 pub mod ClocksExample
+pub mod DelaysExample

@@ -2,11 +2,12 @@
 use Rattle.std.proofs.Common.{◌≡◌, ◌≢◌, ℕ, Bool, true, false, List, [], ◌∷◌, ◌++◌, ◌⊎◌, inl, inr, refl, sym, ap, ◌∙◌, subst, Option, Some, None}
 use Rattle.std.proofs.lemmas.Bool.{both_ways}
 use Rattle.vs_four.specs.declared.Bit4.{Bit4}
-use Rattle.vs_net.specs.Network.{Sleeper, State, Write, Update, put, write_all, is_written, flatten, Process, Input, Clock, Assign, Comb, Clocked, Network, Kind, AnInput, TheClock, AnAssign, AComb, AClocked, kind, writes, listens, clock_net, made}
+use Rattle.vs_net.specs.Network.{Sleeper, State, Write, Update, Delayed, put, write_all, is_written, flatten, Process, Input, Clock, Assign, Comb, Clocked, Network, Kind, AnInput, TheClock, AnAssign, AComb, AClocked, kind, writes, listens, clock_net, made}
 use Rattle.vs_net.specs.Queue.{Mode, Waiting, Due, Slot, Queue, changes}
 use Rattle.vs_net.specs.Solution.{driven}
 use Rattle.vs_net.specs.Lawful.{IsLawful, Settles, IsKnown, IsSure}
 use Rattle.vs_net.proofs.Basics.{by_test, put-other, write_all_at, write_all_other}
+use Rattle.vs_net.proofs.Delays.{to_come, to_come_same}
 use Rattle.vs_net.proofs.Waking.{Woke, stays, wakes, woke_on, Spares, changes_all}
 pub use Rattle.vs_net.proofs.Nets.{IsInput}
 use Rattle.vs_net.proofs.Nets.{Family, IsPort, nets}
@@ -34,6 +35,7 @@ pub record Acts (n : Network) (p : ℕ) (q q' : Queue) : Type 0 where
   pub pending : (r : ℕ) → r ≢ p → q'.pending r ≡ q.pending r
   pub active : (r : ℕ) → r ≢ p → q'.active r ≡ q.active r
   pub waiting : (r : ℕ) → r ≢ p → q'.waiting r ≡ q.waiting r
+  pub later : (r : ℕ) → r ≢ p → q'.later r ≡ q.later r
   pub slots : q'.slots ≡ q.slots
 
 pub acts_on : (n : Network) (p : ℕ) (q q' q'' : Queue) → Acts n p q q' → Acts n p q' q'' → Acts n p q q''
@@ -46,20 +48,21 @@ acts_on n p q q' q'' a b =
       pending = λ r h. b.pending r h ∙ a.pending r h;
       active = λ r h. b.active r h ∙ a.active r h;
       waiting = λ r h. b.waiting r h ∙ a.waiting r h;
+      later = λ r h. b.later r h ∙ a.later r h;
       slots = b.slots ∙ a.slots;
     }
 
 pub acts_mode : (n : Network) (p : ℕ) (q : Queue) (m : Mode) → Acts n p q (record q { mode = put q.mode p m })
-acts_mode n p q m = record { now = λ x h. refl; mode = λ r h. stays (put-other q.mode p m r h) (λ e b l. refl); calm = λ r h k c. put-other q.mode p m r h; deaf = λ r h k c. put-other q.mode p m r h; pending = λ r h. refl; active = λ r h. refl; waiting = λ r h. refl; slots = refl }
+acts_mode n p q m = record { now = λ x h. refl; mode = λ r h. stays (put-other q.mode p m r h) (λ e b l. refl); calm = λ r h k c. put-other q.mode p m r h; deaf = λ r h k c. put-other q.mode p m r h; pending = λ r h. refl; active = λ r h. refl; waiting = λ r h. refl; later = λ r h. refl; slots = refl }
 
 pub acts_pending : (n : Network) (p : ℕ) (q : Queue) (o : Option (List Write)) → Acts n p q (record q { pending = put q.pending p o })
-acts_pending n p q o = record { now = λ x h. refl; mode = λ r h. stays refl (λ e b l. refl); calm = λ r h k c. refl; deaf = λ r h k c. refl; pending = λ r h. put-other q.pending p o r h; active = λ r h. refl; waiting = λ r h. refl; slots = refl }
+acts_pending n p q o = record { now = λ x h. refl; mode = λ r h. stays refl (λ e b l. refl); calm = λ r h k c. refl; deaf = λ r h k c. refl; pending = λ r h. put-other q.pending p o r h; active = λ r h. refl; waiting = λ r h. refl; later = λ r h. refl; slots = refl }
 
 pub acts_active : (n : Network) (p : ℕ) (q : Queue) (us : List Update) → Acts n p q (record q { active = put q.active p us })
-acts_active n p q us = record { now = λ x h. refl; mode = λ r h. stays refl (λ e b l. refl); calm = λ r h k c. refl; deaf = λ r h k c. refl; pending = λ r h. refl; active = λ r h. put-other q.active p us r h; waiting = λ r h. refl; slots = refl }
+acts_active n p q us = record { now = λ x h. refl; mode = λ r h. stays refl (λ e b l. refl); calm = λ r h k c. refl; deaf = λ r h k c. refl; pending = λ r h. refl; active = λ r h. put-other q.active p us r h; waiting = λ r h. refl; later = λ r h. refl; slots = refl }
 
-pub acts_waiting : (n : Network) (p : ℕ) (q : Queue) (us : List Update) → Acts n p q (record q { waiting = put q.waiting p us })
-acts_waiting n p q us = record { now = λ x h. refl; mode = λ r h. stays refl (λ e b l. refl); calm = λ r h k c. refl; deaf = λ r h k c. refl; pending = λ r h. refl; active = λ r h. refl; waiting = λ r h. put-other q.waiting p us r h; slots = refl }
+pub acts_waiting : (n : Network) (p : ℕ) (q : Queue) (us : List Update) (ds : List Delayed) → Acts n p q (record q { waiting = put q.waiting p us; later = put q.later p ds })
+acts_waiting n p q us ds = record { now = λ x h. refl; mode = λ r h. stays refl (λ e b l. refl); calm = λ r h k c. refl; deaf = λ r h k c. refl; pending = λ r h. refl; active = λ r h. refl; waiting = λ r h. put-other q.waiting p us r h; later = λ r h. put-other q.later p ds r h; slots = refl }
 
 -- writes to bits of p alone
 abbrev pub Own : Network → ℕ → List Write → Type 0
@@ -79,6 +82,7 @@ acts_changes n p q ws own =
       pending = λ r h. ap (λ (f : ℕ → Option (List Write)). f r) c.pending;
       active = λ r h. ap (λ (f : ℕ → List Update). f r) c.active;
       waiting = λ r h. ap (λ (f : ℕ → List Update). f r) c.waiting;
+      later = λ r h. ap (λ (f : ℕ → List Delayed). f r) c.later;
       slots = c.slots;
     }
 
@@ -110,18 +114,19 @@ pub record AssignPart (n : Network) (nets : ℕ → Option Family) (ph : Phase) 
   pub own : (ws : List Write) → q.pending p ≡ Some ws → Own n p ws
   pub active : q.active p ≡ []
   pub waiting : q.waiting p ≡ []
+  pub later : q.later p ≡ []
   pub port : (c : IsPort nets (n.process p)) → PortOk ph q p c.from c.to c.family
 
 -- updates that are to come make of the bits what they are to be
 pub record WriterPart (n : Network) (ph : Phase) (q : Queue) (p : ℕ) : Type 0 where
   pub pending : q.pending p ≡ None
-  pub own : Own n p (flatten (q.active p ++ q.waiting p))
-  pub coming : (b : ℕ) → writes (n.process p) b ≡ true → write_all q.now (flatten (q.active p ++ q.waiting p)) b ≡ driven (n.process p) ph.slot ph.before b
+  pub own : Own n p (flatten (q.active p ++ to_come q p))
+  pub coming : (b : ℕ) → writes (n.process p) b ≡ true → write_all q.now (flatten (q.active p ++ to_come q p)) b ≡ driven (n.process p) ph.slot ph.before b
 
 pub record InputPart (n : Network) (nets : ℕ → Option Family) (ph : Phase) (q : Queue) (p : ℕ) : Type 0 where
   pub mode : q.mode p ≡ Waiting
   pub writer : WriterPart n ph q p
-  pub net : (b : ℕ) (f : Family) → nets b ≡ Some f → writes (n.process p) b ≡ true → (q.active p ++ q.waiting p ≡ []) ⊎ (q.active p ++ q.waiting p ≡ (record { bit = b; value = ph.goal f } ∷ []) ∷ [])
+  pub net : (b : ℕ) (f : Family) → nets b ≡ Some f → writes (n.process p) b ≡ true → (q.active p ++ to_come q p ≡ []) ⊎ (q.active p ++ to_come q p ≡ (record { bit = b; value = ph.goal f } ∷ []) ∷ [])
 
 -- a net that has changed stays
 abbrev pub Steady : (ℕ → Option Family) → (Family → Bit4) → Queue → Queue → Type 0
@@ -177,11 +182,12 @@ module _ (n : Network) (L : IsLawful n) where
         own = λ ws e. part.own ws (sym (a.pending r ne) ∙ e);
         active = a.active r ne ∙ part.active;
         waiting = a.waiting r ne ∙ part.waiting;
+        later = a.later r ne ∙ part.later;
         port = λ c. port_other ph p r c.from c.to c.family q q' ne a (steady c.from c.family c.from_net) c.writes_it (part.port c);
       }
 
-  pub coming_same : (p r : ℕ) (q q' : Queue) → r ≢ p → Acts n p q q' → q'.active r ++ q'.waiting r ≡ q.active r ++ q.waiting r
-  coming_same p r q q' ne a = ap (λ x. x ++ q'.waiting r) (a.active r ne) ∙ ap (λ x. q.active r ++ x) (a.waiting r ne)
+  pub coming_same : (p r : ℕ) (q q' : Queue) → r ≢ p → Acts n p q q' → q'.active r ++ to_come q' r ≡ q.active r ++ to_come q r
+  coming_same p r q q' ne a = ap (λ x. x ++ to_come q' r) (a.active r ne) ∙ ap (λ x. q.active r ++ x) (to_come_same q' q r (a.waiting r ne) (a.later r ne))
 
   pub writer_other : (ph : Phase) (p r : ℕ) (q q' : Queue) → r ≢ p → Acts n p q q' → WriterPart n ph q r → WriterPart n ph q' r
   writer_other ph p r q q' ne a part =
@@ -189,7 +195,7 @@ module _ (n : Network) (L : IsLawful n) where
       record {
         pending = a.pending r ne ∙ part.pending;
         own = subst (λ (us : List Update). Own n r (flatten us)) (sym e) part.own;
-        coming = λ b w. ap (λ us. write_all q'.now (flatten us) b) e ∙ write_all_at (flatten (q.active r ++ q.waiting r)) q'.now q.now b (a.now b (not_written p r b ne w)) ∙ part.coming b w;
+        coming = λ b w. ap (λ us. write_all q'.now (flatten us) b) e ∙ write_all_at (flatten (q.active r ++ to_come q r)) q'.now q.now b (a.now b (not_written p r b ne w)) ∙ part.coming b w;
       }
 
   pub input_other : (ph : Phase) (p r : ℕ) (q q' : Queue) → IsInput (kind (n.process r)) → r ≢ p → Acts n p q q' → InputPart n (nets n L) ph q r → InputPart n (nets n L) ph q' r

@@ -38,7 +38,7 @@ local_keeps n P step [] q h p = p
 local_keeps n P step (c ∷ cs) q h p = local_keeps n P step cs (after n q c) h.2 (step q c h.0 h.1 p)
 
 pub completed_of : (n : Network) (cs : List Choice) (q : Queue) → Path n q cs → IsRested (after_all n q cs) → (after_all n q cs).slots ≡ [] → IsCompleted n q cs
-completed_of n [] q h over e = ((still_of n q over.0, over.1), e)
+completed_of n [] q h over e = ((still_of n q over.0, over.1, over.2), e)
 completed_of n (c ∷ cs) q h over e = (possible_of n q c h.0, completed_of n cs (after n q c) h.1 over e)
 
 abbrev pub In : ℕ → List ℕ → Type 0

@@ -10,6 +10,7 @@ use Rattle.vs_net.specs.Solution.{driven, reset_effects}
 use Rattle.vs_net.specs.Lawful.{IsKnown}
 use Rattle.vs_net.proofs.Basics.{by_test, same_is, write_none}
 use Rattle.vs_net.proofs.Waking.{edge_same}
+use Rattle.vs_net.proofs.Delays.{to_come}
 use Rattle.vs_net.proofs.Nets.{Family}
 use Rattle.vs_net.proofs.Parts.{Phase, WriterPart, Own}
 use Rattle.vs_net.proofs.Steps.{Calm, CalmEdge, Apart}
@@ -221,7 +222,7 @@ module _ (n : Network) (clock : Bit4 → Bool) (begin : ℕ → Bit4) (before v 
       value = reset_value to;
     }
 
-  module _ (mode : q.mode p ≡ Waiting) (unrun : Unrun n ph q p) (own : Own n p (flatten (q.active p ++ q.waiting p))) (once : Once n (flatten (q.active p ++ q.waiting p))) where
+  module _ (mode : q.mode p ≡ Waiting) (unrun : Unrun n ph q p) (own : Own n p (flatten (q.active p ++ to_come q p))) (once : Once n (flatten (q.active p ++ to_come q p))) where
     writer_at : ((b : ℕ) → writes (n.process p) b ≡ true → driven (n.process p) (Fall v) before b ≡ before b) → WriterPart n ph q p
     writer_at h = record {
       pending = unrun.pending;

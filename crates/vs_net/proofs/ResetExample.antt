@@ -6,7 +6,7 @@ use Rattle.std.specs.List.{list_any}
 use Rattle.vs_four.specs.declared.Bit4.{Bit4}
 use Rattle.vs_four.specs.declared.Bit4.TheVariants.{Zero, One, X}
 use Rattle.vs_four.specs.Tables.{not_bit, and_bit, same}
-use Rattle.vs_net.specs.Network.{State, Reset, reset_of, Sleeper, to_value, write_all, is_written, flatten, Input, AnInput, TheClock, AnAssign, AComb, AClocked, kind, writes, listens, clock_net, made, updates, effects, branch}
+use Rattle.vs_net.specs.Network.{State, Reset, reset_of, Sleeper, to_value, write_all, is_written, flatten, Input, AnInput, TheClock, AnAssign, AComb, AClocked, kind, writes, listens, clock_net, made, updates, effects, branch, but_delay, delayed}
 use Rattle.vs_net.specs.Queue.{start, change, changes, is_held, ends}
 use Rattle.vs_net.specs.Lawful.{IsLawful, IsResetPort, IsSleeper, Settles, IsOrdered, ReadsIn, WritesIn, IsUnknown, times}
 use Rattle.vs_net.specs.Bound.{fed_by, written_at_once}
@@ -387,6 +387,7 @@ reset_is_bounded = record {
     fed = fed;
     fed_only = fed_only;
     few = few;
+    prompt = λ p s k e. subst (λ (x : ℕ). but_delay 0 (delayed (reset_process x) s) ≡ []) (sym (clocked_kind p k)) refl;
     input = input_weight;
     clock = clock_weight;
     assign = λ p k. subst (λ (x : ℕ). reset_weight x ≡ 1 + fed_by 5 reset_feeds reset_weight x) (sym (assign_kind p k)) refl;

@@ -3,15 +3,16 @@ use Rattle.std.proofs.Common.{◌≡◌, ◌≢◌, ℕ, ◌≤◌, Bool, true, 
 use Rattle.std.proofs.lemmas.Bool.{both_ways}
 use Rattle.vs_four.specs.declared.Bit4.{Bit4}
 use Rattle.vs_four.specs.declared.Bit4.TheVariants.{Zero, One, X, Z}
-use Rattle.vs_net.specs.Network.{posedge, reset_of, State, Update, put, write_all, is_written, flatten, Network, Kind, AnInput, TheClock, AnAssign, AComb, AClocked, kind, writes, listens, clock_net, made, effects}
-use Rattle.vs_net.specs.Queue.{Mode, Unstarted, Waiting, Due, Queue, Rise, woken, changes, Choice, Start, Evaluate, Apply, Run, Take, Activate, Next, after, IsBlock, evaluated, applied, ran, took, drive}
+use Rattle.vs_net.specs.Network.{posedge, reset_of, State, Update, Delayed, put, write_all, is_written, flatten, Network, Kind, AnInput, TheClock, AnAssign, AComb, AClocked, kind, writes, listens, clock_net, made, effects}
+use Rattle.vs_net.specs.Queue.{Mode, Unstarted, Waiting, Due, Queue, Rise, woken, changes, Choice, Start, Evaluate, Apply, Run, Take, Activate, Advance, Next, after, IsBlock, evaluated, applied, ran, took, drive}
+use Rattle.vs_net.proofs.Delays.{to_come, to_come_none}
 use Rattle.vs_net.proofs.Quiet.{IsQuiet, IsCalm, calm_of, IsStep}
 use Rattle.vs_net.specs.Solution.{clocked_effects}
 use Rattle.vs_net.specs.Lawful.{IsLawful, IsClockPort, Settles, times}
 use Rattle.vs_net.proofs.Basics.{by_test, same_number, put-other, write_all_at, write_all_other, write_none, none_written}
 use Rattle.vs_net.proofs.Waking.{Changed, changes_all, fires, fires_reset, fires_none}
 use Rattle.vs_net.proofs.Parts.{is_due, is_pending, is_settled, WriterPart, not_written, writer_other, coming_same}
-use Rattle.vs_net.proofs.Steps.{NetsIn, Did, edge_calm, evaluated_self, evaluated_did, applied_is, applied_self, applied_did, took_is, took_input, ran_did, ran_mode, ran_agrees, ran_waiting, ran_active, ran_pending}
+use Rattle.vs_net.proofs.Steps.{NetsIn, Did, edge_calm, evaluated_self, evaluated_did, applied_is, applied_self, applied_did, took_is, took_input, ran_did, ran_mode, ran_agrees, ran_waiting, ran_later, ran_active, ran_pending}
 use Rattle.vs_net.proofs.Settling.{Each, an_assign, an_input, a_comb, a_clocked, Holds, holds_on, CombOk, comb_due, comb_agrees, comb_sleeps, comb_asleep, comb_ok_other, Roused, Rouses, rouses_none, Once, rest_other, CombPart, ClockedPart, clocked_rests, Running, clocked_did, clocked_waits, clocked_active, clocked_writer, clocked_once, clocked_rouses, input_take_did, IsInput, Settling, some_is, full_is}
 use Rattle.vs_net.proofs.Nets.{Family, nets, clock_family, clock_net_family, reset_net_family, off_nets}
 use Rattle.vs_net.proofs.Ends.{nets_carry, settles_no_input, past_assign, past_input}
@@ -29,9 +30,9 @@ RisingComb n L before q p = CombPart n Rise before before (λ r. ⊥) q p
 
 -- a clocked block before its clock net rises, then due, and then run on the old values
 pub data ClockedRun (n : Network) (before : State) (q : Queue) (p : ℕ) : Type 0 where
-  to_rise : q.mode p ≡ Waiting → q.now (clock_net (n.process p)) ≡ Zero → q.waiting p ≡ [] → ((b : ℕ) → writes (n.process p) b ≡ true → q.now b ≡ before b) → ClockedRun n before q p
-  risen : q.mode p ≡ Due → q.now (clock_net (n.process p)) ≡ One → q.waiting p ≡ [] → ((b : ℕ) → writes (n.process p) b ≡ true → q.now b ≡ before b) → ClockedRun n before q p
-  has_run : q.mode p ≡ Waiting → q.now (clock_net (n.process p)) ≡ One → WriterPart n (risen_phase before) q p → Once n (flatten (q.active p ++ q.waiting p)) → ClockedRun n before q p
+  to_rise : q.mode p ≡ Waiting → q.now (clock_net (n.process p)) ≡ Zero → (q.waiting p ≡ []) × (q.later p ≡ []) → ((b : ℕ) → writes (n.process p) b ≡ true → q.now b ≡ before b) → ClockedRun n before q p
+  risen : q.mode p ≡ Due → q.now (clock_net (n.process p)) ≡ One → (q.waiting p ≡ []) × (q.later p ≡ []) → ((b : ℕ) → writes (n.process p) b ≡ true → q.now b ≡ before b) → ClockedRun n before q p
+  has_run : q.mode p ≡ Waiting → q.now (clock_net (n.process p)) ≡ One → WriterPart n (risen_phase before) q p → Once n (flatten (q.active p ++ to_come q p)) → ClockedRun n before q p
 
 pub record RisingClocked (n : Network) (before : State) (q : Queue) (p : ℕ) : Type 0 where
   pub pending : q.pending p ≡ None
@@ -58,7 +59,7 @@ pub record Rising (n : Network) (L : IsLawful n) (before : State) (q : Queue) : 
   -- all but the clock nets, and what has been stirred, is as before
   pub frame : (b : ℕ) → L.clock_nets b ≡ false → IsUnstirred n L q b → q.now b ≡ before b
   pub idle : (p : ℕ) → Settles (kind (n.process p)) → IsOff n L p → ((b : ℕ) → listens (n.process p) b ≡ true → IsUnstirred n L q b) → IsIdle q p
-  pub inputs : (p : ℕ) → IsInput (kind (n.process p)) → q.waiting p ≡ []
+  pub inputs : (p : ℕ) → IsInput (kind (n.process p)) → (q.waiting p ≡ []) × (q.later p ≡ [])
   pub data_inputs : (p : ℕ) → kind (n.process p) ≡ AnInput → q.active p ≡ []
 
 module _ (n : Network) (L : IsLawful n) (before : State) where
@@ -94,10 +95,10 @@ module _ (n : Network) (L : IsLawful n) (before : State) where
 
     run_other : ClockedRun n before q r → ClockedRun n before q' r
     run_other (to_rise m z w g) = elim (did.nets c None family) [
-      | inl f ↦ risen (mode_on Waiting true m (sees z f)) f (did.acts.waiting r ne ∙ w) (bits_on g)
-      | inr o ↦ (let z' = zero_is (q'.now c) o in to_rise (mode_on Waiting false m (silent (ap (λ (x : Bit4). posedge x (q'.now c)) z ∙ ap (posedge Zero) z'))) z' (did.acts.waiting r ne ∙ w) (bits_on g))
+      | inl f ↦ risen (mode_on Waiting true m (sees z f)) f (did.acts.waiting r ne ∙ w.0, did.acts.later r ne ∙ w.1) (bits_on g)
+      | inr o ↦ (let z' = zero_is (q'.now c) o in to_rise (mode_on Waiting false m (silent (ap (λ (x : Bit4). posedge x (q'.now c)) z ∙ ap (posedge Zero) z'))) z' (did.acts.waiting r ne ∙ w.0, did.acts.later r ne ∙ w.1) (bits_on g))
     ]
-    run_other (risen m f w g) = risen (mode_on Due (fires (n.process r) q.now q'.now) m refl) (did.steady c None family f) (did.acts.waiting r ne ∙ w) (bits_on g)
+    run_other (risen m f w g) = risen (mode_on Due (fires (n.process r) q.now q'.now) m refl) (did.steady c None family f) (did.acts.waiting r ne ∙ w.0, did.acts.later r ne ∙ w.1) (bits_on g)
     run_other (has_run m f w once) = has_run (waits_on m f) (did.steady c None family f) (writer_other n L (risen_phase before) p r q q' ne did.acts w)
         (λ x b y e l. subst (λ (us : List Update). times (flatten us) b ≤ 1) (sym (coming_same n L p r q q' ne did.acts)) (once x b y e l))
 
@@ -161,7 +162,7 @@ module _ (n : Network) (L : IsLawful n) (before : State) where
   record Self (q' : Queue) (p : ℕ) : Type 0 where
     each : EachRising q' p
     idle : Settles (kind (n.process p)) → IsOff n L p → ((b : ℕ) → listens (n.process p) b ≡ true → IsUnstirred n L q' b) → IsIdle q' p
-    inputs : IsInput (kind (n.process p)) → q'.waiting p ≡ []
+    inputs : IsInput (kind (n.process p)) → (q'.waiting p ≡ []) × (q'.later p ≡ [])
     data_inputs : kind (n.process p) ≡ AnInput → q'.active p ≡ []
 
   rising_on : (p : ℕ) (q q' : Queue) → Did n L (rising before) p q q' → Still p q q' → Self q' p → Rising n L before q → Rising n L before q'
@@ -175,8 +176,8 @@ module _ (n : Network) (L : IsLawful n) (before : State) where
         (λ e. subst (λ (x : ℕ). IsIdle q' x) (sym e) (self.idle (subst (λ (x : ℕ). Settles (kind (n.process x))) e st) (subst (λ (x : ℕ). IsOff n L x) e off) (λ b l. u b (subst (λ (x : ℕ). listens (n.process x) b ≡ true) (sym e) l))))
         (λ ne. let i = rise.idle r st off (λ b l x k s. still.back x k (u b l x k s)) in (still.mode r ne st off u ∙ i.0, did.acts.pending r ne ∙ i.1));
     inputs = λ r k. same_number r p
-        (λ e. subst (λ (x : ℕ). q'.waiting x ≡ []) (sym e) (self.inputs (subst (λ (x : ℕ). IsInput (kind (n.process x))) e k)))
-        (λ ne. did.acts.waiting r ne ∙ rise.inputs r k);
+        (λ e. subst (λ (x : ℕ). (q'.waiting x ≡ []) × (q'.later x ≡ [])) (sym e) (self.inputs (subst (λ (x : ℕ). IsInput (kind (n.process x))) e k)))
+        (λ ne. let i = rise.inputs r k in (did.acts.waiting r ne ∙ i.0, did.acts.later r ne ∙ i.1));
     data_inputs = λ r k. same_number r p
         (λ e. subst (λ (x : ℕ). q'.active x ≡ []) (sym e) (self.data_inputs (subst (λ (x : ℕ). kind (n.process x) ≡ AnInput) e k)))
         (λ ne. did.acts.active r ne ∙ rise.data_inputs r k);
@@ -243,7 +244,7 @@ module _ (n : Network) (L : IsLawful n) (before : State) where
       settles_step p q (ran n q p) (subst Settles (sym k) tt) (comb_off p k) (ran_did n L (rising before) p q k waiting nets_in) (λ i. let m = i.0 in cc)
       (a_comb k (record {
         ok = comb_agrees (ran_mode n L (rising before) p q k waiting nets_in) (ran_agrees n L (rising before) p q k waiting nets_in) (why part.ok);
-        rest = record { pending = ran_pending n L (rising before) p q k waiting nets_in ∙ part.rest.pending; active = ran_active n L (rising before) p q k waiting nets_in ∙ part.rest.active; waiting = ran_waiting n L (rising before) p q k waiting nets_in };
+        rest = record { pending = ran_pending n L (rising before) p q k waiting nets_in ∙ part.rest.pending; active = ran_active n L (rising before) p q k waiting nets_in ∙ part.rest.active; waiting = ran_waiting n L (rising before) p q k waiting nets_in; later = ran_later n L (rising before) p q k waiting nets_in part.rest.later };
       })) rise
     where
       why : CombOk n Rise before before (λ r. ⊥) q p → Roused n Rise before p
@@ -265,18 +266,19 @@ module _ (n : Network) (L : IsLawful n) (before : State) where
       drives : drive (n.process p) Rise ++ clocked_effects (n.process p) Rise before ≡ effects (n.process p) before
       drives = ap (λ (x : List Update). x ++ clocked_effects (n.process p) Rise before) (clocked_undriven (n.process p) Rise k) ∙ clocked_rise (n.process p) before k
 
-      none : q.waiting p ≡ [] → q.active p ++ q.waiting p ≡ []
-      none w = ap (λ (x : List Update). x ++ q.waiting p) part.active ∙ w
+      none : (q.waiting p ≡ []) × (q.later p ≡ []) → q.active p ++ to_come q p ≡ []
+      none w = ap (λ (x : List Update). x ++ to_come q p) part.active ∙ to_come_none q p w.0 w.1
 
       by_run : ClockedRun n before q p → Running n Rise before q p
       by_run (to_rise m z w g) = absurd cc
       by_run (has_run m f w once) = absurd cc
       by_run (risen m f w g) = record {
         pending = part.pending;
+        later = w.1;
         left = λ b h. absurd (none_written b (subst (λ (us : List Update). is_written (flatten us) b ≡ true) (none w) h));
         coming = λ b h.
-            ap (λ (us : List Update). write_all (write_all q.now (flatten (q.active p ++ q.waiting p))) (flatten us) b) old_values
-            ∙ write_all_at (flatten (effects (n.process p) before)) (write_all q.now (flatten (q.active p ++ q.waiting p))) before b (ap (λ us. write_all q.now (flatten us) b) (none w) ∙ write_none q.now b ∙ g b h)
+            ap (λ (us : List Update). write_all (write_all q.now (flatten (q.active p ++ to_come q p))) (flatten us) b) old_values
+            ∙ write_all_at (flatten (effects (n.process p) before)) (write_all q.now (flatten (q.active p ++ to_come q p))) before b (ap (λ us. write_all q.now (flatten us) b) (none w) ∙ write_none q.now b ∙ g b h)
             ∙ sym (ap (λ (us : List Update). write_all before (flatten us) b) drives);
       }
 
@@ -358,27 +360,35 @@ module _ (n : Network) (L : IsLawful n) (before : State) where
           let did = input_take_did n L (rising before) q p u.0 u.1 u.2 part rise.holds.nets (apart_rising before) (λ f. refl) TheClock e tt in
           subst (λ (x : Queue). Rising n L before x) (sym (took_is n L (rising before) p q u.0 u.1 u.2 rise.holds.nets (apart_rising before)))
           (rising_on p q _ did (still_on_nets p q _ (λ x. cc) did (λ b w. L.clock_bit_is p b e w) rise)
-          (record { each = an_input k (took_input n L (rising before) p q u.0 u.1 u.2 rise.holds.nets (apart_rising before) k part); idle = λ st off x. absurd (settles_no_input (kind (n.process p)) st k); inputs = λ i. ap (λ (f : ℕ → List Update). f p) (changes_all n u.0 (record q { active = put q.active p u.1 })).waiting ∙ rise.inputs p k; data_inputs = λ x. absurd cc }) rise)
+          (record { each = an_input k (took_input n L (rising before) p q u.0 u.1 u.2 rise.holds.nets (apart_rising before) k part); idle = λ st off x. absurd (settles_no_input (kind (n.process p)) st k); inputs = λ i. (let ch = changes_all n u.0 (record q { active = put q.active p u.1 }) in let w = rise.inputs p k in (ap (λ (f : ℕ → List Update). f p) ch.waiting ∙ w.0, ap (λ (f : ℕ → List Delayed). f p) ch.later ∙ w.1)); data_inputs = λ x. absurd cc }) rise)
       by_kind AnAssign e i = absurd i
       by_kind AComb e i = absurd i
       by_kind AClocked e i = absurd i
 
-  pub rising_step : (q : Queue) (c : Choice) → c ≢ Next → c ≢ Activate → IsStep n q c → Rising n L before q → Rising n L before (after n q c)
-  rising_step q (Start p) nn na h rise = absurd (not_unstarted q p (rise.holds.each p) h)
-  rising_step q (Evaluate p) nn na h rise = evaluate_step q p (rise.holds.each p) h.0 h.1 rise
-  rising_step q (Apply p) nn na h rise = apply_step q p (rise.holds.each p) h rise
-  rising_step q (Run p) nn na h rise = run_step q p (rise.holds.each p) h.0 h.1 rise
-  rising_step q (Take p) nn na h rise = take_step q p (rise.holds.each p) h rise
-  rising_step q Activate nn na h rise = absurd (na refl)
-  rising_step q Next nn na h rise = absurd (nn refl)
+  -- no update moves
+  abbrev pub IsLocal : Choice → Type 0
+  IsLocal Activate = ⊥
+  IsLocal (Advance time) = ⊥
+  IsLocal Next = ⊥
+  IsLocal c = Unit {0}
+
+  pub rising_step : (q : Queue) (c : Choice) → IsLocal c → IsStep n q c → Rising n L before q → Rising n L before (after n q c)
+  rising_step q (Start p) l h rise = absurd (not_unstarted q p (rise.holds.each p) h)
+  rising_step q (Evaluate p) l h rise = evaluate_step q p (rise.holds.each p) h.0 h.1 rise
+  rising_step q (Apply p) l h rise = apply_step q p (rise.holds.each p) h rise
+  rising_step q (Run p) l h rise = run_step q p (rise.holds.each p) h.0 h.1 rise
+  rising_step q (Take p) l h rise = take_step q p (rise.holds.each p) h rise
+  rising_step q Activate l h rise = absurd l
+  rising_step q (Advance time) l h rise = absurd l
+  rising_step q Next l h rise = absurd l
 
   -- where assigns have nothing to do, the clock has risen in all its nets
   module _ (q : Queue) (calm : IsCalm n q) (rise : Rising n L before q) where
     input_taken : (p b : ℕ) (f : Family) → nets n L b ≡ Some f → IsInput (kind (n.process p)) → writes (n.process p) b ≡ true → q.now b ≡ level_of Rise before f
     input_taken p b f net i w = by_part (rise.holds.each p)
       where
-        none : q.active p ++ q.waiting p ≡ []
-        none = ap (λ (x : List Update). x ++ q.waiting p) (calm.active p) ∙ rise.inputs p i
+        none : q.active p ++ to_come q p ≡ []
+        none = ap (λ (x : List Update). x ++ to_come q p) (calm.active p) ∙ (let w = rise.inputs p i in to_come_none q p w.0 w.1)
 
         by_part : EachRising q p → q.now b ≡ level_of Rise before f
         by_part (an_input x part) = sym (ap (λ x. write_all q.now (flatten x) b) none ∙ write_none q.now b) ∙ part.writer.coming b w ∙ driven_level n L Rise before p b f net i w

@@ -2,7 +2,7 @@
 use Rattle.std.proofs.Common.{◌≡◌, ◌≢◌, ℕ, true, List, [], ◌∷◌, ◌++◌, refl, sym, ap, ◌∙◌, subst, Option, Some, None, unwrap_or, is_some}
 use Rattle.vs_net.specs.Network.{Reset, reset_of, to_value, State, Write, Update, write_all, flatten, put, Network, Kind, AnInput, TheClock, AnAssign, AComb, AClocked, kind, writes, listens, made, branch}
 use Rattle.vs_four.specs.declared.Bit4.TheVariants.{Zero, One}
-use Rattle.vs_net.specs.Queue.{Mode, Unstarted, Waiting, Due, Queue, Slot, Fall, Rise, Choice, Start, Evaluate, Apply, Run, Take, Activate, Next, after, IsCompleted, ends, begun, took, start, slots_of, IsBlock, IsStill, IsOver, IsPossible}
+use Rattle.vs_net.specs.Queue.{Mode, Unstarted, Waiting, Due, Queue, Slot, Fall, Rise, Choice, Start, Evaluate, Apply, Run, Take, Activate, Advance, Next, after, IsCompleted, ends, begun, took, start, slots_of, IsBlock, IsStill, IsOver, IsPossible, drive}
 use Rattle.vs_net.proofs.Quiet.{IsQuiet, IsRested, IsStep, calm_of}
 use Rattle.vs_net.specs.Solution.{IsSlotEnd, IsSolution, IsWriter, clocked_effects, beginning}
 use Rattle.vs_net.specs.Lawful.{IsLawful, Settles, IsKnown}
@@ -17,7 +17,7 @@ use Rattle.vs_net.proofs.Ends.{settling_arrived, settling_end}
 use Rattle.vs_net.proofs.Phases.{early_phase, first_phase, falling, risen_phase, is_one, good_first, good_falling, good_risen, reset_value}
 use Rattle.vs_net.proofs.Early.{Early, early_step, early_goes_on, early_settles, all_early}
 use Rattle.vs_net.proofs.Rising.{Rising, rising_step, rising_settles}
-use Rattle.vs_net.proofs.Drives.{level, level_of, clocked_undriven, clocked_rise}
+use Rattle.vs_net.proofs.Drives.{level, level_of, clock_drive, clocked_undriven, clocked_rise}
 use Rattle.vs_net.proofs.Begin.{Grounded, early_first, falling_begins, rising_begins}
 use Rattle.vs_net.proofs.Awake.{SettlingFirst, Sleeps, awake}
 
@@ -36,7 +36,7 @@ pub data OnRise (n : Network) (L : IsLawful n) (before : State) (q : Queue) : Ty
   settles_risen : SettlingRisen n L before q → OnRise n L before q
 
 pub data InRise (n : Network) (L : IsLawful n) (before : State) (q : Queue) : Type 0 where
-  to_activate : Grounded n L Zero before → IsQuiet q → Rising n L before (activated q) → InRise n L before q
+  to_activate : Grounded n L Zero before → IsQuiet q → q.waiting L.clock ≢ [] → Rising n L before (activated q) → InRise n L before q
   on_rise : Grounded n L Zero before → OnRise n L before q → InRise n L before q
 
 abbrev pub InSlot : (n : Network) → IsLawful n → Slot → State → Queue → Type 0
@@ -93,8 +93,8 @@ module _ (n : Network) (L : IsLawful n) where
 
   settling_over : (ph : Phase) (base : State) (sleeps : ℕ → Type 0) (good : Good ph) → ((f : Family) → ph.fresh f ≡ level_of ph.slot ph.before f) → Given ph.slot ph.before → (q : Queue) → IsRested q → ((p : ℕ) → sleeps p → ((b : ℕ) → listens (n.process p) b ≡ true → q.now b ≡ base b) → Agrees n p q.now) → Settling n L ph base sleeps q → Over n L ph.slot ph.before q
   settling_over ph base sleeps good is_level given q over wake h =
-      let end = settling_end n L ph base sleeps good is_level q (calm_of n q over.0) h over.0 over.1 wake in
-      let arrived : (c : ℕ) (f : Family) → nets n L c ≡ Some f → q.now c ≡ level_of ph.slot ph.before f = (λ c f net. settling_arrived n L ph base sleeps good is_level q (calm_of n q over.0) h (λ r i. over.1 r) c f net ∙ is_level f) in
+      let end = settling_end n L ph base sleeps good is_level q (calm_of n q over.0) h over wake in
+      let arrived : (c : ℕ) (f : Family) → nets n L c ≡ Some f → q.now c ≡ level_of ph.slot ph.before f = (λ c f net. settling_arrived n L ph base sleeps good is_level q (calm_of n q over.0) h (λ r i. (over.1 r, over.2 r)) c f net ∙ is_level f) in
       record { slot_end = end; ground = grounded ph.slot ph.before given q.now end arrived }
 
   pub known_resets : (v : State) → IsKnownVector n v → HasKnownResets n v
@@ -108,10 +108,7 @@ module _ (n : Network) (L : IsLawful n) where
   over_in (Fall v) before q over (settles_later known h) = settling_over (falling before v) before (λ p. ⊥) (good_falling before v) (λ f. refl) known q over (λ p s. absurd s) h
   over_in Rise before q over (on_rise ground (settles_risen h)) = settling_over (risen_phase before) before (λ p. ⊥) (good_risen before) (λ f. refl) ground q over (λ p s. absurd s) h
   over_in Rise before q over (on_rise ground (is_rising h)) = settling_over (risen_phase before) before (λ p. ⊥) (good_risen before) (λ f. refl) ground q over (λ p s. absurd s) (rising_settles n L before q over.0 h)
-  over_in Rise before q over (to_activate ground quiet h) =
-      let quiet' : IsQuiet (activated q) = (λ p. ((over.0 p).0, (over.0 p).1, over.1 p)) in
-      let o = settling_over (risen_phase before) before (λ p. ⊥) (good_risen before) (λ f. refl) ground (activated q) (quiet', λ p. refl) (λ p s. absurd s) (rising_settles n L before (activated q) quiet' h) in
-      record { slot_end = o.slot_end; ground = o.ground }
+  over_in Rise before q over (to_activate ground quiet ahead h) = absurd (ahead (over.1 L.clock))
 
   early_next : (v before : State) (q : Queue) (c : Choice) → c ≢ Next → IsStep n q c → before ≡ (beginning n) → IsKnownVector n v → Early n L (early_phase (beginning n) v) q → InFall n L v before (after n q c)
   early_next v before q Activate ne h e known early =
@@ -124,27 +121,31 @@ module _ (n : Network) (L : IsLawful n) where
   early_next v before q (Apply p) ne h e known early = is_early e known (early_step n L v q (Apply p) ne (λ x. cc) h early)
   early_next v before q (Run p) ne h e known early = is_early e known (early_step n L v q (Run p) ne (λ x. cc) h early)
   early_next v before q (Take p) ne h e known early = is_early e known (early_step n L v q (Take p) ne (λ x. cc) h early)
+  early_next v before q (Advance time) ne h e known early = is_early e known (early_step n L v q (Advance time) ne (λ x. cc) h early)
   early_next v before q Next ne h e known early = absurd (ne refl)
 
   rising_next : (before : State) (q : Queue) (c : Choice) → c ≢ Next → IsStep n q c → Rising n L before q → OnRise n L before (after n q c)
   rising_next before q Activate ne h rise =
       settles_risen (settling_step n L (risen_phase before) before (λ p. ⊥) (good_risen before) q Activate ne h (rising_settles n L before q h.0 rise))
-  rising_next before q (Start p) ne h rise = is_rising (rising_step n L before q (Start p) ne (λ x. cc) h rise)
-  rising_next before q (Evaluate p) ne h rise = is_rising (rising_step n L before q (Evaluate p) ne (λ x. cc) h rise)
-  rising_next before q (Apply p) ne h rise = is_rising (rising_step n L before q (Apply p) ne (λ x. cc) h rise)
-  rising_next before q (Run p) ne h rise = is_rising (rising_step n L before q (Run p) ne (λ x. cc) h rise)
-  rising_next before q (Take p) ne h rise = is_rising (rising_step n L before q (Take p) ne (λ x. cc) h rise)
+  rising_next before q (Advance time) ne h rise =
+      settles_risen (settling_step n L (risen_phase before) before (λ p. ⊥) (good_risen before) q (Advance time) ne h (rising_settles n L before q h.0.0 rise))
+  rising_next before q (Start p) ne h rise = is_rising (rising_step n L before q (Start p) tt h rise)
+  rising_next before q (Evaluate p) ne h rise = is_rising (rising_step n L before q (Evaluate p) tt h rise)
+  rising_next before q (Apply p) ne h rise = is_rising (rising_step n L before q (Apply p) tt h rise)
+  rising_next before q (Run p) ne h rise = is_rising (rising_step n L before q (Run p) tt h rise)
+  rising_next before q (Take p) ne h rise = is_rising (rising_step n L before q (Take p) tt h rise)
   rising_next before q Next ne h rise = absurd (ne refl)
 
-  -- where all is at rest nothing but an activation is possible
-  only_activation : (q : Queue) (c : Choice) → c ≢ Next → IsQuiet q → IsStep n q c → c ≡ Activate
-  only_activation q Activate ne quiet h = refl
-  only_activation q (Start p) ne quiet h = absurd (let m = (quiet p).0 in cc)
-  only_activation q (Evaluate p) ne quiet h = absurd (let m = (quiet p).0 in let d = h.1 in cc)
-  only_activation q (Apply p) ne quiet h = absurd (let d = ap (λ (o : Option (List Write)). is_some o) (quiet p).1 in cc)
-  only_activation q (Run p) ne quiet h = absurd (let m = (quiet p).0 in let d = h.1 in cc)
-  only_activation q (Take p) ne quiet h = absurd (h (quiet p).2)
-  only_activation q Next ne quiet h = absurd (ne refl)
+  -- where all is at rest, and the clock's update waits, nothing but an activation is possible
+  only_activation : (q : Queue) (c : Choice) → c ≢ Next → IsQuiet q → q.waiting L.clock ≢ [] → IsStep n q c → c ≡ Activate
+  only_activation q Activate ne quiet ahead h = refl
+  only_activation q (Advance time) ne quiet ahead h = absurd (ahead (h.0.1 L.clock))
+  only_activation q (Start p) ne quiet ahead h = absurd (let m = (quiet p).0 in cc)
+  only_activation q (Evaluate p) ne quiet ahead h = absurd (let m = (quiet p).0 in let d = h.1 in cc)
+  only_activation q (Apply p) ne quiet ahead h = absurd (let d = ap (λ (o : Option (List Write)). is_some o) (quiet p).1 in cc)
+  only_activation q (Run p) ne quiet ahead h = absurd (let m = (quiet p).0 in let d = h.1 in cc)
+  only_activation q (Take p) ne quiet ahead h = absurd (h (quiet p).2)
+  only_activation q Next ne quiet ahead h = absurd (ne refl)
 
   pub rise_step : (before : State) (q : Queue) (c : Choice) → c ≢ Next → IsStep n q c → OnRise n L before q → OnRise n L before (after n q c)
   rise_step before q c ne h (settles_risen s) = settles_risen (settling_step n L (risen_phase before) before (λ p. ⊥) (good_risen before) q c ne h s)
@@ -155,7 +156,7 @@ module _ (n : Network) (L : IsLawful n) where
   step_in (Fall v) before q c ne h (settles_first e known base base_in s) = settles_first e known base base_in (settling_step n L (first_phase (beginning n) v) base (Sleeps n L v base known base_in) (good_first (beginning n) v) q c ne h s)
   step_in (Fall v) before q c ne h (settles_later known s) = settles_later known (settling_step n L (falling before v) before (λ p. ⊥) (good_falling before v) q c ne h s)
   step_in Rise before q c ne h (on_rise ground o) = on_rise ground (rise_step before q c ne h o)
-  step_in Rise before q c ne h (to_activate ground quiet rise) = subst (λ (x : Choice). InRise n L before (after n q x)) (sym (only_activation q c ne quiet h)) (on_rise ground (is_rising rise))
+  step_in Rise before q c ne h (to_activate ground quiet ahead rise) = subst (λ (x : Choice). InRise n L before (after n q x)) (sym (only_activation q c ne quiet ahead h)) (on_rise ground (is_rising rise))
 
   -- an input always waits
   each_waits : (ph : Phase) (comb clocked : Queue → ℕ → Type 0) (q : Queue) (p : ℕ) → IsInput (kind (n.process p)) → Each n (nets n L) ph comb clocked q p → q.mode p ≡ Waiting
@@ -168,7 +169,7 @@ module _ (n : Network) (L : IsLawful n) where
   input_waits (Fall v) before q p i (is_early e known early) = each_waits _ _ _ q p i (early.holds.each p)
   input_waits (Fall v) before q p i (settles_first e known base base_in h) = each_waits _ _ _ q p i (h.each p)
   input_waits (Fall v) before q p i (settles_later known h) = each_waits _ _ _ q p i (h.each p)
-  input_waits Rise before q p i (to_activate ground quiet h) = (quiet p).0
+  input_waits Rise before q p i (to_activate ground quiet ahead h) = (quiet p).0
   input_waits Rise before q p i (on_rise ground (is_rising h)) = each_waits _ _ _ q p i (h.holds.each p)
   input_waits Rise before q p i (on_rise ground (settles_risen h)) = each_waits _ _ _ q p i (h.each p)
 
@@ -197,7 +198,7 @@ module _ (n : Network) (L : IsLawful n) where
       empty (u ∷ us) e = absurd (still (Take p) (λ x. cc))
 
   pub rested_of : (slot : Slot) (before : State) (q : Queue) → InSlot n L slot before q → IsOver n q → IsRested q
-  rested_of slot before q h over = (quiet_of slot before q h over.0, over.1)
+  rested_of slot before q h over = (quiet_of slot before q h over.0, over.1, over.2)
 
   pub step_of : (slot : Slot) (before : State) (q : Queue) → InSlot n L slot before q → (c : Choice) → IsPossible n q c → IsStep n q c
   step_of slot before q h (Start p) s = s
@@ -206,6 +207,7 @@ module _ (n : Network) (L : IsLawful n) where
   step_of slot before q h (Run p) s = s
   step_of slot before q h (Take p) s = s
   step_of slot before q h Activate s = (quiet_of slot before q h s.0, s.1)
+  step_of slot before q h (Advance time) s = ((quiet_of slot before q h s.0.0, s.0.1), s.1)
   step_of slot before q h Next s = (rested_of slot before q h s.0, s.1)
 
   pub slots_stay : (q : Queue) (c : Choice) → c ≢ Next → (after n q c).slots ≡ q.slots
@@ -219,6 +221,7 @@ module _ (n : Network) (L : IsLawful n) where
       at_list [] = refl
       at_list (u ∷ us) = (changes_all n u (record q { active = put q.active p us })).slots
   slots_stay q Activate ne = refl
+  slots_stay q (Advance time) ne = refl
   slots_stay q Next ne = absurd (ne refl)
 
   -- falls and rises take turns, and in a fall the inputs of resets are known
@@ -239,8 +242,12 @@ module _ (n : Network) (L : IsLawful n) where
   next_alternates (Fall v) (Fall w) rest h = absurd h
   next_alternates Rise Rise rest h = absurd h
 
+  -- the clock's update waits where a slot begins
+  clock_rises : drive (n.process L.clock) Rise ≢ []
+  clock_rises e = let c = clock_drive (n.process L.clock) Rise L.clock_is in let h = c.1 in cc
+
   pub begin_in : (slot x : Slot) (rest : List Slot) (before : State) (q : Queue) → Alternates slot (x ∷ rest) → IsRested q → Over n L slot before q → InSlot n L x q.now (begun n q (x ∷ rest))
-  begin_in (Fall v) Rise rest before q alt over o = to_activate o.ground over.0 (rising_begins n L q over (began_at before (Fall v) q.now o.slot_end) rest Zero o.ground refl)
+  begin_in (Fall v) Rise rest before q alt over o = to_activate o.ground over.0 clock_rises (rising_begins n L q over (began_at before (Fall v) q.now o.slot_end) rest Zero o.ground refl)
   begin_in Rise (Fall v) rest before q alt over o = settles_later alt.0 (falling_begins n L q over (began_at before Rise q.now o.slot_end) rest One o.ground v alt.0 refl)
   begin_in (Fall v) (Fall w) rest before q alt over o = absurd alt
   begin_in Rise Rise rest before q alt over o = absurd alt

@@ -1,10 +1,11 @@
 -- A slot while it settles, with all of its updates under way.
 use Rattle.vs_net.proofs.Beginning.{flat_append, own_initial_updates, unset_updates, written_or}
-use Rattle.std.proofs.Common.{◌≡◌, ◌≢◌, ℕ, Bool, true, false, List, [], ◌∷◌, ◌++◌, ◌⊎◌, inl, inr, refl, sym, ap, ◌∙◌, subst, Option, Some, None, IsSome, append-nil, ◌+◌, ◌≤◌, ◌==◌, ◌||◌, eq-eqb, eqb-true, arith, append_assoc}
+use Rattle.std.proofs.Common.{◌≡◌, ◌≢◌, ℕ, Bool, true, false, List, [], ◌∷◌, ◌++◌, ◌⊎◌, inl, inr, refl, sym, ap, ◌∙◌, subst, Option, Some, None, IsSome, ◌+◌, ◌≤◌, ◌==◌, ◌||◌, eq-eqb, eqb-true, arith, append_assoc}
 use Rattle.std.proofs.lemmas.Bool.{both_ways, cond-true}
-use Rattle.vs_net.specs.Network.{Sleeper, Reset, reset_of, is_edge, to_value, State, Write, Update, put, write_all, is_written, flatten, Network, Kind, AnInput, TheClock, AnAssign, AComb, AClocked, kind, writes, listens, clock_net, updates, branch, effects, made}
-use Rattle.vs_net.specs.Queue.{Mode, Unstarted, Waiting, Due, Slot, Queue, woken, change, changes, Choice, Start, Evaluate, Apply, Run, Take, Activate, Next, after, IsBlock, evaluated, applied, ran, took}
-use Rattle.vs_net.proofs.Quiet.{IsQuiet, IsStep}
+use Rattle.vs_net.specs.Network.{Sleeper, Reset, reset_of, is_edge, to_value, State, Write, Update, Delayed, at_delay, but_delay, postponed, by_delay, undelayed, put, write_all, is_written, flatten, Network, Kind, AnInput, TheClock, AnAssign, AComb, AClocked, kind, writes, listens, clock_net, delayed, updates, branch, effects, made}
+use Rattle.vs_net.specs.Queue.{Mode, Unstarted, Waiting, Due, Slot, Queue, woken, change, changes, Choice, Start, Evaluate, Apply, Run, Take, Activate, Advance, Next, after, IsSoonest, IsBlock, evaluated, applied, ran, took}
+use Rattle.vs_net.proofs.Delays.{to_come, to_come_same, to_come_waits, came, parted}
+use Rattle.vs_net.proofs.Quiet.{IsQuiet, IsSpent, IsStep}
 use Rattle.vs_four.specs.declared.Bit4.{Bit4}
 use Rattle.vs_four.specs.declared.Bit4.TheVariants.{X}
 use Rattle.vs_net.specs.Solution.{driven}
@@ -15,7 +16,7 @@ pub use Rattle.vs_net.proofs.Parts.{IsInput}
 use Rattle.vs_net.proofs.Parts.{Acts, acts_on, acts_mode, acts_waiting, acts_active, acts_changes, Own, Agrees, AssignOk, is_due, is_pending, is_settled, Phase, AssignPart, WriterPart, InputPart, agrees_other, assign_other, writer_other, input_other, not_written, coming_same}
 use Rattle.vs_net.proofs.Asleep.{AsleepAt, times-append, written_times, unwritten_times, never_times}
 use Rattle.vs_net.proofs.Nets.{Family, nets, clock_family, clock_bit, off_nets, input_net, clock_net_family, reset_net_family}
-use Rattle.vs_net.proofs.Steps.{NetsIn, Calm, CalmEdge, Apart, Did, did_reset, edge_calm, edge_fresh, did_off_nets, evaluated_self, evaluated_did, applied_is, applied_self, applied_did, took_is, took_acts, took_flat, coming_took, took_writer, took_input, took_net_did, own_u, ran_did, ran_mode, ran_agrees, ran_waiting, ran_active, ran_pending}
+use Rattle.vs_net.proofs.Steps.{NetsIn, Calm, CalmEdge, Apart, Did, did_reset, edge_calm, edge_fresh, did_off_nets, evaluated_self, evaluated_did, applied_is, applied_self, applied_did, took_is, took_acts, took_flat, coming_took, took_writer, took_input, took_net_did, own_u, ran_did, ran_mode, ran_agrees, ran_waiting, ran_later, ran_active, ran_pending}
 
 -- what is so of a process, by its kind
 pub data Each (n : Network) (nets : ℕ → Option Family) (ph : Phase) (comb clocked : Queue → ℕ → Type 0) (q : Queue) (p : ℕ) : Type 0 where
@@ -55,6 +56,7 @@ pub record CombRest (q : Queue) (p : ℕ) : Type 0 where
   pub pending : q.pending p ≡ None
   pub active : q.active p ≡ []
   pub waiting : q.waiting p ≡ []
+  pub later : q.later p ≡ []
 
 pub record CombPart (n : Network) (slot : Slot) (before base : State) (sleeps : ℕ → Type 0) (q : Queue) (p : ℕ) : Type 0 where
   pub ok : CombOk n slot before base sleeps q p
@@ -75,18 +77,20 @@ pub record Fires (n : Network) (ph : Phase) (p : ℕ) (e : Reset) : Type 0 where
 -- the block hasn't run in this slot; what it has to come are initial updates, which make of its bits what they were before
 pub record Unrun (n : Network) (ph : Phase) (q : Queue) (p : ℕ) : Type 0 where
   pub pending : q.pending p ≡ None
-  pub left : (b : ℕ) → is_written (flatten (q.active p ++ q.waiting p)) b ≡ true → is_written (flatten (n.initial_updates p)) b ≡ true
-  pub bits : (b : ℕ) → writes (n.process p) b ≡ true → write_all q.now (flatten (q.active p ++ q.waiting p)) b ≡ ph.before b
+  pub later : q.later p ≡ []
+  pub left : (b : ℕ) → is_written (flatten (q.active p ++ to_come q p)) b ≡ true → is_written (flatten (n.initial_updates p)) b ≡ true
+  pub bits : (b : ℕ) → writes (n.process p) b ≡ true → write_all q.now (flatten (q.active p ++ to_come q p)) b ≡ ph.before b
 
 -- a due clocked block gives its bits what they are to be, in a run on these values
 pub record Running (n : Network) (slot : Slot) (before : State) (q : Queue) (p : ℕ) : Type 0 where
   pub pending : q.pending p ≡ None
-  pub left : (b : ℕ) → is_written (flatten (q.active p ++ q.waiting p)) b ≡ true → is_written (flatten (n.initial_updates p)) b ≡ true
-  pub coming : (b : ℕ) → writes (n.process p) b ≡ true → write_all (write_all q.now (flatten (q.active p ++ q.waiting p))) (flatten (effects (n.process p) q.now)) b ≡ driven (n.process p) slot before b
+  pub later : q.later p ≡ []
+  pub left : (b : ℕ) → is_written (flatten (q.active p ++ to_come q p)) b ≡ true → is_written (flatten (n.initial_updates p)) b ≡ true
+  pub coming : (b : ℕ) → writes (n.process p) b ≡ true → write_all (write_all q.now (flatten (q.active p ++ to_come q p))) (flatten (effects (n.process p) q.now)) b ≡ driven (n.process p) slot before b
 
 -- a clocked block has nothing to run any more, or is to be reset, or is due by its reset
 pub data ClockedPart (n : Network) (ph : Phase) (q : Queue) (p : ℕ) : Type 0 where
-  clocked_rests : q.mode p ≡ Waiting → WriterPart n ph q p → Once n (flatten (q.active p ++ q.waiting p)) → ((e : Reset) → reset_of (n.process p) ≡ Some e → Past ph q e) → ClockedPart n ph q p
+  clocked_rests : q.mode p ≡ Waiting → WriterPart n ph q p → Once n (flatten (q.active p ++ to_come q p)) → ((e : Reset) → reset_of (n.process p) ≡ Some e → Past ph q e) → ClockedPart n ph q p
   clocked_fires : (e : Reset) → Fires n ph p e → q.mode p ≡ Waiting → ph.old (Some e.input) (q.now e.net) ≡ true → Unrun n ph q p → ClockedPart n ph q p
   clocked_due : (e : Reset) → Fires n ph p e → (a : Bit4) → ph.old (Some e.input) a ≡ true → q.mode p ≡ Due → q.now e.net ≡ ph.fresh (Some e.input) → Unrun n ph q p → ClockedPart n ph q p
 
@@ -112,9 +116,48 @@ full_is (x ∷ xs) h = (x, xs, refl)
 abbrev pub activated : Queue → Queue
 activated q = record q { active = q.waiting; waiting = λ p. [] }
 
+-- a later time comes
+abbrev pub advanced : Queue → ℕ → Queue
+advanced q time = record q { waiting = λ p. undelayed (at_delay time (q.later p)); time = time; later = λ p. but_delay time (q.later p) }
+
+-- the updates are moved among the active ones, those that wait and those that come later
+abbrev pub moved : Queue → (active waiting : ℕ → List Update) → ℕ → (later : ℕ → List Delayed) → Queue
+moved q active waiting time later = record q { active = active; waiting = waiting; time = time; later = later }
+
+-- so that those of each writer come in their order, as before
+pub record Moves (q : Queue) (active waiting : ℕ → List Update) (later : ℕ → List Delayed) : Type 0 where
+  pub coming : (p : ℕ) → active p ++ (waiting p ++ undelayed (by_delay (later p))) ≡ q.active p ++ to_come q p
+  pub none : (p : ℕ) → q.waiting p ≡ [] → q.later p ≡ [] → (active p ≡ []) × (waiting p ≡ []) × (later p ≡ [])
+  pub none_later : (p : ℕ) → q.later p ≡ [] → later p ≡ []
+
+pub activate_moves : (q : Queue) → IsQuiet q → Moves q q.waiting (λ p. []) q.later
+activate_moves q quiet = record {
+  coming = λ p. ap (λ (us : List Update). us ++ to_come q p) (sym (quiet p).2);
+  none = λ p w l. (w, refl, l);
+  none_later = λ p l. l;
+}
+
+pub advance_moves : (q : Queue) (time : ℕ) → IsSpent q → IsSoonest q time → Moves q q.active (λ p. undelayed (at_delay time (q.later p))) (λ p. but_delay time (q.later p))
+advance_moves q time spent soonest = record {
+  coming = λ p. ap (λ (us : List Update). q.active p ++ us) (came time (q.later p) (soonest.1 p) ∙ ap (λ (us : List Update). us ++ undelayed (by_delay (q.later p))) (sym (spent.1 p)));
+  none = λ p w l. ((spent.0 p).2, ap (λ (ds : List Delayed). undelayed (at_delay time ds)) l, ap (but_delay time) l);
+  none_later = λ p l. ap (but_delay time) l;
+}
+
+-- a run adds its updates behind those that are to come, where none comes later
+pub ran_to_come : (n : Network) (q done : Queue) (p : ℕ) → done.waiting ≡ q.waiting → done.later ≡ q.later → q.later p ≡ []
+    → (put done.waiting p (done.waiting p ++ undelayed (at_delay 0 (delayed (n.process p) q.now))) p) ++ undelayed (by_delay (put done.later p (done.later p ++ postponed done.time (but_delay 0 (delayed (n.process p) q.now))) p)) ≡ to_come q p ++ updates (n.process p) q.now
+ran_to_come n q done p w l none =
+    let us = delayed (n.process p) q.now in
+    ap (λ (x : List Update). x ++ undelayed (by_delay (put done.later p (done.later p ++ postponed done.time (but_delay 0 us)) p))) (put-same done.waiting p (done.waiting p ++ undelayed (at_delay 0 us)) ∙ ap (λ (f : ℕ → List Update). f p ++ undelayed (at_delay 0 us)) w)
+    ∙ ap (λ (ds : List Delayed). (q.waiting p ++ undelayed (at_delay 0 us)) ++ undelayed (by_delay ds)) (put-same done.later p (done.later p ++ postponed done.time (but_delay 0 us)) ∙ ap (λ (x : List Delayed). x ++ postponed done.time (but_delay 0 us)) (ap (λ (f : ℕ → List Delayed). f p) l ∙ none))
+    ∙ append_assoc (q.waiting p) (undelayed (at_delay 0 us)) (undelayed (by_delay (postponed done.time (but_delay 0 us))))
+    ∙ ap (λ (x : List Update). q.waiting p ++ x) (parted done.time us)
+    ∙ ap (λ (x : List Update). x ++ undelayed (by_delay us)) (sym (to_come_waits q p none))
+
 module _ (n : Network) (L : IsLawful n) (ph : Phase) where
   pub rest_other : (p r : ℕ) (q q' : Queue) → r ≢ p → Acts n p q q' → CombRest q r → CombRest q' r
-  rest_other p r q q' ne a part = record { pending = a.pending r ne ∙ part.pending; active = a.active r ne ∙ part.active; waiting = a.waiting r ne ∙ part.waiting }
+  rest_other p r q q' ne a part = record { pending = a.pending r ne ∙ part.pending; active = a.active r ne ∙ part.active; waiting = a.waiting r ne ∙ part.waiting; later = a.later r ne ∙ part.later }
 
   settles_comb : (r : ℕ) → kind (n.process r) ≡ AComb → Settles (kind (n.process r))
   settles_comb r k = subst Settles (sym k) tt
@@ -186,8 +229,9 @@ module _ (n : Network) (L : IsLawful n) (ph : Phase) where
       let e = coming_same n L p r q q' ne a in
       record {
         pending = a.pending r ne ∙ u.pending;
+        later = a.later r ne ∙ u.later;
         left = λ b h. u.left b (subst (λ (us : List Update). is_written (flatten us) b ≡ true) e h);
-        bits = λ b w. ap (λ us. write_all q'.now (flatten us) b) e ∙ write_all_at (flatten (q.active r ++ q.waiting r)) q'.now q.now b (a.now b (not_written n L p r b ne w)) ∙ u.bits b w;
+        bits = λ b w. ap (λ us. write_all q'.now (flatten us) b) e ∙ write_all_at (flatten (q.active r ++ to_come q r)) q'.now q.now b (a.now b (not_written n L p r b ne w)) ∙ u.bits b w;
       }
 
   woken_mode : {m m' : Mode} {t t' : Bool} → m' ≡ woken m t → {x : Mode} → m ≡ x → t ≡ t' → m' ≡ woken x t'
@@ -213,33 +257,29 @@ module _ (n : Network) (L : IsLawful n) (ph : Phase) where
   clocked_other calm p r q q' k ne nets_in did (clocked_due e f a o d fr u) =
       clocked_due e f a o (woken_mode (did_reset n L ph calm p q q' nets_in did r ne k) d refl) (did.steady e.net (Some e.input) (reset_net_family n L r e f.is_reset) fr) (unrun_other p r q q' ne did.acts u)
 
-  module _ (q : Queue) (quiet : IsQuiet q) where
-    none_first : (p : ℕ) → q.active p ++ q.waiting p ≡ q.waiting p
-    none_first p = ap (λ (x : List Update). x ++ q.waiting p) (quiet p).2
-
-    pub coming_activated : (p : ℕ) → q.waiting p ++ [] ≡ q.active p ++ q.waiting p
-    coming_activated p = append-nil (q.waiting p) ∙ sym (none_first p)
-
-    pub activated_writer : (p : ℕ) → WriterPart n ph q p → WriterPart n ph (activated q) p
-    activated_writer p part =
+  module _ (q : Queue) (active waiting : ℕ → List Update) (time : ℕ) (later : ℕ → List Delayed) (moves : Moves q active waiting later) where
+    pub moved_writer : (p : ℕ) → WriterPart n ph q p → WriterPart n ph (moved q active waiting time later) p
+    moved_writer p part =
         record {
           pending = part.pending;
-          own = subst (λ (x : List Update). Own n p (flatten x)) (sym (coming_activated p)) part.own;
-          coming = λ b w. ap (λ x. write_all q.now (flatten x) b) (coming_activated p) ∙ part.coming b w;
+          own = subst (λ (x : List Update). Own n p (flatten x)) (sym (moves.coming p)) part.own;
+          coming = λ b w. ap (λ x. write_all q.now (flatten x) b) (moves.coming p) ∙ part.coming b w;
         }
 
-    pub activated_input : (p : ℕ) → InputPart n (nets n L) ph q p → InputPart n (nets n L) ph (activated q) p
-    activated_input p part =
+    pub moved_input : (p : ℕ) → InputPart n (nets n L) ph q p → InputPart n (nets n L) ph (moved q active waiting time later) p
+    moved_input p part =
         record {
           mode = part.mode;
-          writer = activated_writer p part.writer;
-          net = λ b f h w. elim (part.net b f h w) [ inl e ↦ inl (coming_activated p ∙ e) | inr e ↦ inr (coming_activated p ∙ e) ];
+          writer = moved_writer p part.writer;
+          net = λ b f h w. elim (part.net b f h w) [ inl e ↦ inl (moves.coming p ∙ e) | inr e ↦ inr (moves.coming p ∙ e) ];
         }
 
-    pub activated_assign : (p : ℕ) → AssignPart n (nets n L) ph q p → AssignPart n (nets n L) ph (activated q) p
-    activated_assign p part = record { ok = assign_again part.ok; own = part.own; active = part.waiting; waiting = refl; port = λ c. record { values = (part.port c).values; later = (part.port c).later } }
+    pub moved_assign : (p : ℕ) → AssignPart n (nets n L) ph q p → AssignPart n (nets n L) ph (moved q active waiting time later) p
+    moved_assign p part =
+        let none = moves.none p part.waiting part.later in
+        record { ok = assign_again part.ok; own = part.own; active = none.0; waiting = none.1; later = none.2; port = λ c. record { values = (part.port c).values; later = (part.port c).later } }
       where
-        assign_again : AssignOk n q p → AssignOk n (activated q) p
+        assign_again : AssignOk n q p → AssignOk n (moved q active waiting time later) p
         assign_again (is_due d) = is_due d
         assign_again (is_pending m h) = is_pending m h
         assign_again (is_settled m h g) = is_settled m h g
@@ -310,7 +350,7 @@ module _ (n : Network) (L : IsLawful n) (ph : Phase) where
     pub clocked_acts : Acts n p q q_ran
     clocked_acts =
         acts_on n p q q_done q_ran (acts_changes n p q at_once own_at_once)
-        (acts_on n p q_done (record q_done { mode = put q_done.mode p Waiting }) q_ran (acts_mode n p q_done Waiting) (acts_waiting n p (record q_done { mode = put q_done.mode p Waiting }) (q_done.waiting p ++ later)))
+        (acts_on n p q_done (record q_done { mode = put q_done.mode p Waiting }) q_ran (acts_mode n p q_done Waiting) (acts_waiting n p (record q_done { mode = put q_done.mode p Waiting }) (q_done.waiting p ++ undelayed (at_delay 0 (delayed (n.process p) q.now))) (q_done.later p ++ postponed q_done.time (but_delay 0 (delayed (n.process p) q.now)))))
 
     pub clocked_did : NetsIn (nets n L) ph q → Did n L ph p q q_ran
     clocked_did nets_in = did_off_nets n L ph p q q_ran clocked_acts (clocked_off p k) nets_in
@@ -329,16 +369,16 @@ module _ (n : Network) (L : IsLawful n) (ph : Phase) where
 
     module _ (run : Running n ph.slot ph.before q p) where
       abbrev stale : List Write
-      stale = flatten (q.active p ++ q.waiting p)
+      stale = flatten (q.active p ++ to_come q p)
 
-      ran_comes : q_ran.active p ++ q_ran.waiting p ≡ (q.active p ++ q.waiting p) ++ later
+      ran_comes : q_ran.active p ++ to_come q_ran p ≡ (q.active p ++ to_come q p) ++ later
       ran_comes =
-          ap (λ (x : List Update). x ++ q_ran.waiting p) (ap (λ (f : ℕ → List Update). f p) ran_ch.active)
-          ∙ ap (λ (x : List Update). q.active p ++ x) (put-same q_done.waiting p (q_done.waiting p ++ later) ∙ ap (λ (x : List Update). x ++ later) (ap (λ (f : ℕ → List Update). f p) ran_ch.waiting))
-          ∙ sym (append_assoc (q.active p) (q.waiting p) later)
+          ap (λ (x : List Update). x ++ to_come q_ran p) (ap (λ (f : ℕ → List Update). f p) ran_ch.active)
+          ∙ ap (λ (x : List Update). q.active p ++ x) (ran_to_come n q q_done p ran_ch.waiting ran_ch.later run.later)
+          ∙ sym (append_assoc (q.active p) (to_come q p) later)
 
-      ran_flat : flatten (q_ran.active p ++ q_ran.waiting p) ≡ stale ++ flatten later
-      ran_flat = ap flatten ran_comes ∙ flat_append (q.active p ++ q.waiting p) later
+      ran_flat : flatten (q_ran.active p ++ to_come q_ran p) ≡ stale ++ flatten later
+      ran_flat = ap flatten ran_comes ∙ flat_append (q.active p ++ to_come q p) later
 
       -- what is stale and what is written at once are of different bits
       turned : (b : ℕ) → write_all (write_all q.now at_once) stale b ≡ write_all (write_all q.now stale) at_once b
@@ -363,7 +403,7 @@ module _ (n : Network) (L : IsLawful n) (ph : Phase) where
       unheard : (x b : ℕ) (y : Sleeper) → n.sleeper x ≡ Some y → listens (n.process x) b ≡ true → is_written stale b ≡ false
       unheard x b y e l = by_test (is_written stale b) (λ h. absurd (both_ways (is_written (flatten (n.initial_updates p)) b) (unset_updates n L p b ((L.sleepers x y e).unset b p l)) (run.left b h))) (λ h. h)
 
-      pub clocked_once : Once n (flatten (q_ran.active p ++ q_ran.waiting p))
+      pub clocked_once : Once n (flatten (q_ran.active p ++ to_come q_ran p))
       clocked_once x b y e l = subst (λ (ws : List Write). times ws b ≤ 1) (sym ran_flat) (let a = written_once x b y e l in let c = times-append stale (flatten later) b in let d = never_times stale b (unheard x b y e l) in omega arith)
 
       -- what it writes at once rouses a sleeping block by a bit that it gives a value
@@ -392,16 +432,16 @@ module _ (n : Network) (L : IsLawful n) (ph : Phase) where
     taken_ch : Changed n (record q { active = put q.active p us }) q_taken u
     taken_ch = changes_all n u (record q { active = put q.active p us })
 
-    taken_flat : flatten (q.active p ++ q.waiting p) ≡ u ++ flatten (us ++ q.waiting p)
-    taken_flat = ap (λ (x : List Update). flatten (x ++ q.waiting p)) active ∙ flat_cons u (us ++ q.waiting p)
+    taken_flat : flatten (q.active p ++ to_come q p) ≡ u ++ flatten (us ++ to_come q p)
+    taken_flat = ap (λ (x : List Update). flatten (x ++ to_come q p)) active ∙ flat_cons u (us ++ to_come q p)
 
-    taken_comes : q_taken.active p ++ q_taken.waiting p ≡ us ++ q.waiting p
+    taken_comes : q_taken.active p ++ to_come q_taken p ≡ us ++ to_come q p
     taken_comes =
-        ap (λ (x : List Update). x ++ q_taken.waiting p) (ap (λ (f : ℕ → List Update). f p) taken_ch.active ∙ put-same q.active p us)
-        ∙ ap (λ (x : List Update). us ++ x) (ap (λ (f : ℕ → List Update). f p) taken_ch.waiting)
+        ap (λ (x : List Update). x ++ to_come q_taken p) (ap (λ (f : ℕ → List Update). f p) taken_ch.active ∙ put-same q.active p us)
+        ∙ ap (λ (x : List Update). us ++ x) (to_come_same q_taken q p (ap (λ (f : ℕ → List Update). f p) taken_ch.waiting) (ap (λ (f : ℕ → List Delayed). f p) taken_ch.later))
 
     u_left : (b : ℕ) → is_written u b ≡ true → is_written (flatten (n.initial_updates p)) b ≡ true
-    u_left b h = run.left b (subst (λ (ws : List Write). is_written ws b ≡ true) (sym taken_flat) (is_written-append u (flatten (us ++ q.waiting p)) b h))
+    u_left b h = run.left b (subst (λ (ws : List Write). is_written ws b ≡ true) (sym taken_flat) (is_written-append u (flatten (us ++ to_come q p)) b h))
 
     pub taken_own : Own n p u
     taken_own b h = own_initial_updates n L p b (u_left b h)
@@ -416,11 +456,12 @@ module _ (n : Network) (L : IsLawful n) (ph : Phase) where
     pub taken_unrun : Unrun n ph q_taken p
     taken_unrun = record {
       pending = ap (λ (f : ℕ → Option (List Write)). f p) taken_ch.pending ∙ run.pending;
-      left = λ b h. run.left b (subst (λ (ws : List Write). is_written ws b ≡ true) (sym taken_flat) (is_written-append_right u (flatten (us ++ q.waiting p)) b (subst (λ (x : List Update). is_written (flatten x) b ≡ true) taken_comes h)));
+      later = ap (λ (f : ℕ → List Delayed). f p) taken_ch.later ∙ run.later;
+      left = λ b h. run.left b (subst (λ (ws : List Write). is_written ws b ≡ true) (sym taken_flat) (is_written-append_right u (flatten (us ++ to_come q p)) b (subst (λ (x : List Update). is_written (flatten x) b ≡ true) taken_comes h)));
       bits = λ b w.
           ap (λ x. write_all q_taken.now (flatten x) b) taken_comes
-          ∙ write_all_at (flatten (us ++ q.waiting p)) q_taken.now (write_all q.now u) b (taken_ch.now b)
-          ∙ sym (ap (λ (s : State). s b) (write_all-append u (flatten (us ++ q.waiting p)) q.now))
+          ∙ write_all_at (flatten (us ++ to_come q p)) q_taken.now (write_all q.now u) b (taken_ch.now b)
+          ∙ sym (ap (λ (s : State). s b) (write_all-append u (flatten (us ++ to_come q p)) q.now))
           ∙ ap (λ ws. write_all q.now ws b) (sym taken_flat)
           ∙ run.bits b w;
     }
@@ -428,14 +469,14 @@ module _ (n : Network) (L : IsLawful n) (ph : Phase) where
     pub taken_is' : took n q p (q.active p) ≡ q_taken
     taken_is' = ap (λ x. took n q p x) active
 
-  module _ (q : Queue) (p : ℕ) (u : Update) (us : List Update) (active : q.active p ≡ u ∷ us) (nets_in : NetsIn (nets n L) ph q) (apart : Apart ph) (w : WriterPart n ph q p) (once : Once n (flatten (q.active p ++ q.waiting p))) where
+  module _ (q : Queue) (p : ℕ) (u : Update) (us : List Update) (active : q.active p ≡ u ∷ us) (nets_in : NetsIn (nets n L) ph q) (apart : Apart ph) (w : WriterPart n ph q p) (once : Once n (flatten (q.active p ++ to_come q p))) where
     abbrev q_fewer : Queue
     q_fewer = record q { active = put q.active p us }
 
-    split_times : (b : ℕ) → times (flatten (q.active p ++ q.waiting p)) b ≡ times u b + times (flatten (us ++ q.waiting p)) b
-    split_times b = ap (λ ws. times ws b) (took_flat n L ph p q u us active nets_in apart w) ∙ times-append u (flatten (us ++ q.waiting p)) b
+    split_times : (b : ℕ) → times (flatten (q.active p ++ to_come q p)) b ≡ times u b + times (flatten (us ++ to_come q p)) b
+    split_times b = ap (λ ws. times ws b) (took_flat n L ph p q u us active nets_in apart w) ∙ times-append u (flatten (us ++ to_come q p)) b
 
-    pub took_once : Once n (flatten ((changes n q_fewer u).active p ++ (changes n q_fewer u).waiting p))
+    pub took_once : Once n (flatten ((changes n q_fewer u).active p ++ to_come (changes n q_fewer u) p))
     took_once x b y e l = subst (λ (vs : List Update). times (flatten vs) b ≤ 1) (sym (coming_took n L ph p q u us active nets_in apart)) (let a = split_times b in let c = once x b y e l in omega arith)
 
     took_rouses' : kind (n.process p) ≡ AClocked → (r : ℕ) → Rouses n ph.slot ph.before q (changes n q_fewer u) r
@@ -443,23 +484,24 @@ module _ (n : Network) (L : IsLawful n) (ph : Phase) where
         let found = changes_rouse u q_fewer r x e h (λ b l. let a = split_times b in let c = once r b x e l in omega arith) m d in
         let b = found.0 in
         let own = own_u n L ph p q u us active nets_in apart w b found.2 in
-        let left : is_written (flatten (us ++ q.waiting p)) b ≡ false = unwritten_times (flatten (us ++ q.waiting p)) b (let a = split_times b in let c = once r b x e found.1 in let g = written_times u b found.2 in omega arith) in
+        let left : is_written (flatten (us ++ to_come q p)) b ≡ false = unwritten_times (flatten (us ++ to_come q p)) b (let a = split_times b in let c = once r b x e found.1 in let g = written_times u b found.2 in omega arith) in
         let after = took_writer n L ph p q u us active nets_in apart w in
         let as_driven : (changes n q_fewer u).now b ≡ driven (n.process p) ph.slot ph.before b =
-        (sym (write_all_other (flatten (us ++ q.waiting p)) (changes n q_fewer u).now b left) ∙ ap (λ vs. write_all (changes n q_fewer u).now (flatten vs) b) (sym (coming_took n L ph p q u us active nets_in apart)) ∙ after.coming b own) in
+        (sym (write_all_other (flatten (us ++ to_come q p)) (changes n q_fewer u).now b left) ∙ ap (λ vs. write_all (changes n q_fewer u).now (flatten vs) b) (sym (coming_took n L ph p q u us active nets_in apart)) ∙ after.coming b own) in
         roused b p found.1 own k (λ z. found.3 (as_driven ∙ z))
 
-  took_rouses : (q : Queue) (p : ℕ) (u : Update) (us : List Update) (active : q.active p ≡ u ∷ us) → kind (n.process p) ≡ AClocked → (nets_in : NetsIn (nets n L) ph q) (apart : Apart ph) (w : WriterPart n ph q p) (once : Once n (flatten (q.active p ++ q.waiting p))) → (r : ℕ) → Rouses n ph.slot ph.before q (changes n (record q { active = put q.active p us }) u) r
+  took_rouses : (q : Queue) (p : ℕ) (u : Update) (us : List Update) (active : q.active p ≡ u ∷ us) → kind (n.process p) ≡ AClocked → (nets_in : NetsIn (nets n L) ph q) (apart : Apart ph) (w : WriterPart n ph q p) (once : Once n (flatten (q.active p ++ to_come q p))) → (r : ℕ) → Rouses n ph.slot ph.before q (changes n (record q { active = put q.active p us }) u) r
   took_rouses q p u us active k nets_in apart w once r = took_rouses' q p u us active nets_in apart w once k r
 
   -- a block that is due by its reset runs the reset branch
   pub reset_running : (q : Queue) (p : ℕ) (e : Reset) → Fires n ph p e → q.now e.net ≡ ph.fresh (Some e.input) → Unrun n ph q p → Running n ph.slot ph.before q p
   reset_running q p e f fr u = record {
     pending = u.pending;
+    later = u.later;
     left = u.left;
     coming = λ b w.
-        ap (λ (us : List Update). write_all (write_all q.now (flatten (q.active p ++ q.waiting p))) (flatten us) b) (L.reset_run p e q.now f.is_reset (fr ∙ f.to_active))
-        ∙ write_all_at (flatten (branch e)) (write_all q.now (flatten (q.active p ++ q.waiting p))) ph.before b (u.bits b w)
+        ap (λ (us : List Update). write_all (write_all q.now (flatten (q.active p ++ to_come q p))) (flatten us) b) (L.reset_run p e q.now f.is_reset (fr ∙ f.to_active))
+        ∙ write_all_at (flatten (branch e)) (write_all q.now (flatten (q.active p ++ to_come q p))) ph.before b (u.bits b w)
         ∙ sym (f.value b);
   }
 
@@ -530,7 +572,7 @@ module _ (n : Network) (L : IsLawful n) (ph : Phase) where
         settling_on p q (ran n q p) did (λ r ne. rouses_none p r q (ran n q p) ne did.acts (λ z. cc))
         (a_comb k (record {
           ok = comb_agrees (ran_mode n L ph p q k part.rest.waiting h.nets) (ran_agrees n L ph p q k part.rest.waiting h.nets) (why part.ok);
-          rest = record { pending = ran_pending n L ph p q k part.rest.waiting h.nets ∙ part.rest.pending; active = ran_active n L ph p q k part.rest.waiting h.nets ∙ part.rest.active; waiting = ran_waiting n L ph p q k part.rest.waiting h.nets };
+          rest = record { pending = ran_pending n L ph p q k part.rest.waiting h.nets ∙ part.rest.pending; active = ran_active n L ph p q k part.rest.waiting h.nets ∙ part.rest.active; waiting = ran_waiting n L ph p q k part.rest.waiting h.nets; later = ran_later n L ph p q k part.rest.waiting h.nets part.rest.later };
         })) h
       where
         why : CombOk n ph.slot ph.before base sleeps q p → Roused n ph.slot ph.before p
@@ -577,33 +619,39 @@ module _ (n : Network) (L : IsLawful n) (ph : Phase) where
         (λ x b y e l. took_once q p u.0 u.1 u.2 h.nets good.apart w once x b y e l)
         (λ e o. elim (past e o) [ inl f ↦ inl (acts.now e.net (clocked_off p k e.net (Some e.input) (reset_net_family n L p e o)) ∙ f) | inr c ↦ inr c ]))) h)
 
-    module _ (q : Queue) (quiet : IsQuiet q) where
-      activated_comb : (p : ℕ) → CombPart n ph.slot ph.before base sleeps q p → CombPart n ph.slot ph.before base sleeps (activated q) p
-      activated_comb p part = record { ok = comb_again part.ok; rest = record { pending = part.rest.pending; active = part.rest.waiting; waiting = refl } }
+    module _ (q : Queue) (active waiting : ℕ → List Update) (time : ℕ) (later : ℕ → List Delayed) (moves : Moves q active waiting later) where
+      abbrev q_moved : Queue
+      q_moved = moved q active waiting time later
+
+      moved_comb : (p : ℕ) → CombPart n ph.slot ph.before base sleeps q p → CombPart n ph.slot ph.before base sleeps q_moved p
+      moved_comb p part =
+          let none = moves.none p part.rest.waiting part.rest.later in
+          record { ok = comb_again part.ok; rest = record { pending = part.rest.pending; active = none.0; waiting = none.1; later = none.2 } }
         where
-          comb_again : CombOk n ph.slot ph.before base sleeps q p → CombOk n ph.slot ph.before base sleeps (activated q) p
+          comb_again : CombOk n ph.slot ph.before base sleeps q p → CombOk n ph.slot ph.before base sleeps q_moved p
           comb_again (comb_due d y) = comb_due d y
           comb_again (comb_agrees m g y) = comb_agrees m g y
           comb_again (comb_sleeps m s none g) = comb_sleeps m s none g
           comb_again (comb_asleep m x y f g) = comb_asleep m x y f (record { listened = g.listened; bits = g.bits })
 
-      activated_unrun : (p : ℕ) → Unrun n ph q p → Unrun n ph (activated q) p
-      activated_unrun p u = record {
+      moved_unrun : (p : ℕ) → Unrun n ph q p → Unrun n ph q_moved p
+      moved_unrun p u = record {
         pending = u.pending;
-        left = λ b h. u.left b (subst (λ (x : List Update). is_written (flatten x) b ≡ true) (coming_activated q quiet p) h);
-        bits = λ b w. ap (λ x. write_all q.now (flatten x) b) (coming_activated q quiet p) ∙ u.bits b w;
+        later = moves.none_later p u.later;
+        left = λ b h. u.left b (subst (λ (x : List Update). is_written (flatten x) b ≡ true) (moves.coming p) h);
+        bits = λ b w. ap (λ x. write_all q.now (flatten x) b) (moves.coming p) ∙ u.bits b w;
       }
 
-      activated_each : (p : ℕ) → EachSettling q p → EachSettling (activated q) p
-      activated_each p (an_assign k part) = an_assign k (activated_assign q quiet p part)
-      activated_each p (an_input k part) = an_input k (activated_input q quiet p part)
-      activated_each p (a_comb k part) = a_comb k (activated_comb p part)
-      activated_each p (a_clocked k (clocked_rests m w once past)) = a_clocked k (clocked_rests m (activated_writer q quiet p w) (λ x b y e l. subst (λ (us : List Update). times (flatten us) b ≤ 1) (sym (coming_activated q quiet p)) (once x b y e l)) (λ e o. past e o))
-      activated_each p (a_clocked k (clocked_fires e f m o u)) = a_clocked k (clocked_fires e f m o (activated_unrun p u))
-      activated_each p (a_clocked k (clocked_due e f a o m fr u)) = a_clocked k (clocked_due e f a o m fr (activated_unrun p u))
+      moved_each : (p : ℕ) → EachSettling q p → EachSettling q_moved p
+      moved_each p (an_assign k part) = an_assign k (moved_assign q active waiting time later moves p part)
+      moved_each p (an_input k part) = an_input k (moved_input q active waiting time later moves p part)
+      moved_each p (a_comb k part) = a_comb k (moved_comb p part)
+      moved_each p (a_clocked k (clocked_rests m w once past)) = a_clocked k (clocked_rests m (moved_writer q active waiting time later moves p w) (λ x b y e l. subst (λ (us : List Update). times (flatten us) b ≤ 1) (sym (moves.coming p)) (once x b y e l)) (λ e o. past e o))
+      moved_each p (a_clocked k (clocked_fires e f m o u)) = a_clocked k (clocked_fires e f m o (moved_unrun p u))
+      moved_each p (a_clocked k (clocked_due e f a o m fr u)) = a_clocked k (clocked_due e f a o m fr (moved_unrun p u))
 
-      activate_step : InSettling q → InSettling (activated q)
-      activate_step h = record { each = λ p. activated_each p (h.each p); kept = h.kept; nets = h.nets }
+      move_step : InSettling q → InSettling q_moved
+      move_step h = record { each = λ p. moved_each p (h.each p); kept = h.kept; nets = h.nets }
 
     -- each step of the slot keeps the phase
     pub settling_step : (q : Queue) (c : Choice) → c ≢ Next → IsStep n q c → InSettling q → InSettling (after n q c)
@@ -612,5 +660,6 @@ module _ (n : Network) (L : IsLawful n) (ph : Phase) where
     settling_step q (Apply p) ne h s = apply_step q p (s.each p) h s
     settling_step q (Run p) ne h s = run_step q p (s.each p) h.0 h.1 s
     settling_step q (Take p) ne h s = take_step q p (s.each p) h s
-    settling_step q Activate ne h s = activate_step q h.0 s
+    settling_step q Activate ne h s = move_step q q.waiting (λ p. []) q.time q.later (activate_moves q h.0) s
+    settling_step q (Advance time) ne h s = move_step q q.active (λ p. undelayed (at_delay time (q.later p))) time (λ p. but_delay time (q.later p)) (advance_moves q time h.0 h.1) s
     settling_step q Next ne h s = absurd (ne refl)

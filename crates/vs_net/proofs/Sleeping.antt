@@ -6,13 +6,14 @@ use Rattle.std.specs.List.{list_any}
 use Rattle.std.proofs.lemmas.Bool.{both_ways}
 use Rattle.vs_four.specs.declared.Bit4.TheVariants.{X, Z}
 use Rattle.vs_net.specs.Network.{Sleeper, State, Write, Update, put, write_all, is_written, flatten, Network, Kind, AnInput, TheClock, AnAssign, AComb, AClocked, kind, writes, listens, made}
-use Rattle.vs_net.specs.Queue.{Mode, Unstarted, Waiting, Due, Queue, Slot, Fall, Rise, changes, Choice, Start, Evaluate, Apply, Run, Take, Activate, Next, IsBlock, IsCompleted, after, took, begun, ends, start, slots_of, first_mode, IsFirst}
+use Rattle.vs_net.specs.Queue.{Mode, Unstarted, Waiting, Due, Queue, Slot, Fall, Rise, changes, Choice, Start, Evaluate, Apply, Run, Take, Activate, Advance, Next, IsBlock, IsCompleted, after, took, begun, ends, start, slots_of, first_mode, IsFirst}
 use Rattle.vs_net.specs.Solution.{all_x, driven, IsWriter, beginning}
 use Rattle.vs_net.specs.Lawful.{IsLawful, IsSleeper, Settles, times}
 use Rattle.vs_net.specs.Laws.{has_run, IsAfterSlot, SleepersWake}
 use Rattle.vs_net.proofs.Quiet.{IsRested, IsStep}
 use Rattle.vs_net.proofs.Basics.{by_test, same_number, put-same, put-other, write_all_other, write_all-append, is_written-append, flat_cons}
 use Rattle.vs_net.proofs.Waking.{Woke, stays, wakes, Changed, changes_all}
+use Rattle.vs_net.proofs.Delays.{to_come}
 use Rattle.vs_net.proofs.Parts.{IsInput, Own, Phase, made_off}
 use Rattle.vs_net.proofs.Asleep.{all_x_at, all_x_of, times-append, written_times, unwritten_times}
 use Rattle.vs_net.proofs.Settling.{Each, an_assign, an_input, a_comb, a_clocked, CombPart, comb_due, comb_agrees, comb_sleeps, comb_asleep, ClockedPart, clocked_rests, clocked_fires, clocked_due, Once, changes_rouse, some_is, full_is, Running, reset_running, clocked_found}
@@ -25,9 +26,9 @@ use Rattle.vs_net.proofs.Runs.{InSlot, is_early, settles_first, settles_later, i
 
 -- the updates that a clocked block has to come
 record Coming (n : Network) (slot : Slot) (before : State) (q : Queue) (r : ℕ) : Type 0 where
-  own : Own n r (flatten (q.active r ++ q.waiting r))
-  value : (b : ℕ) → writes (n.process r) b ≡ true → write_all q.now (flatten (q.active r ++ q.waiting r)) b ≡ driven (n.process r) slot before b
-  once : Once n (flatten (q.active r ++ q.waiting r))
+  own : Own n r (flatten (q.active r ++ to_come q r))
+  value : (b : ℕ) → writes (n.process r) b ≡ true → write_all q.now (flatten (q.active r ++ to_come q r)) b ≡ driven (n.process r) slot before b
+  once : Once n (flatten (q.active r ++ to_come q r))
 
 flat_front : (u : Update) (us xs ws : List Update) → xs ≡ u ∷ us → flatten (xs ++ ws) ≡ u ++ flatten (us ++ ws)
 unfolding flatten
@@ -47,8 +48,8 @@ module _ (n : Network) (L : IsLawful n) where
   coming_settling ph base sleeps q r k (an_input k' part) = absurd (subst IsInput k k')
   coming_settling ph base sleeps q r k (a_comb k' part) = absurd cc
   coming_settling ph base sleeps q r k (a_clocked k' (clocked_rests m w once past)) = inl (record { own = w.own; value = w.coming; once = once })
-  coming_settling ph base sleeps q r k (a_clocked k' (clocked_fires e f m o u)) = inr (λ b h. inr (u.left b (flat_left (q.active r) (q.waiting r) b h)))
-  coming_settling ph base sleeps q r k (a_clocked k' (clocked_due e f a o m fr u)) = inr (λ b h. inr (u.left b (flat_left (q.active r) (q.waiting r) b h)))
+  coming_settling ph base sleeps q r k (a_clocked k' (clocked_fires e f m o u)) = inr (λ b h. inr (u.left b (flat_left (q.active r) (to_come q r) b h)))
+  coming_settling ph base sleeps q r k (a_clocked k' (clocked_due e f a o m fr u)) = inr (λ b h. inr (u.left b (flat_left (q.active r) (to_come q r) b h)))
 
   -- what a due clocked block's run gives its bits
   running_settling : (ph : Phase) (base : State) (sleeps : ℕ → Type 0) (q : Queue) (r : ℕ) → kind (n.process r) ≡ AClocked → q.mode r ≡ Due → Each n (nets n L) ph (CombPart n ph.slot ph.before base sleeps) (ClockedPart n ph) q r → Running n ph.slot ph.before q r
@@ -69,7 +70,7 @@ module _ (n : Network) (L : IsLawful n) where
       by_part (a_clocked k' part) = absurd (elim part.mode [ inl u ↦ cc | inr w ↦ cc ])
   running_in (Fall v) before q r k d (settles_first e known base base_in s) = subst (λ (x : State). Running n (Fall v) x q r) (sym e) (running_settling _ _ _ q r k d (s.each r))
   running_in (Fall v) before q r k d (settles_later known s) = running_settling _ _ _ q r k d (s.each r)
-  running_in Rise before q r k d (to_activate ground quiet h) = absurd (let m = (quiet r).0 in cc)
+  running_in Rise before q r k d (to_activate ground quiet ahead h) = absurd (let m = (quiet r).0 in cc)
   running_in Rise before q r k d (on_rise ground (settles_risen s)) = running_settling _ _ _ q r k d (s.each r)
   running_in Rise before q r k d (on_rise ground (is_rising rise)) = by_part (rise.holds.each r)
     where
@@ -96,7 +97,7 @@ module _ (n : Network) (L : IsLawful n) where
   coming_in (Fall v) before q r k ne (is_early e known early) = inr (λ b h. inl (early.initial r b h))
   coming_in (Fall v) before q r k ne (settles_first e known base base_in s) = begun_too (Fall v) before q r (subst (λ (x : State). Coming n (Fall v) x q r ⊎ IsInitial q r) (sym e) (coming_settling _ _ _ q r k (s.each r))) (λ p kp. begun_settling _ _ _ q p kp (s.each p))
   coming_in (Fall v) before q r k ne (settles_later known s) = begun_too (Fall v) before q r (coming_settling _ _ _ q r k (s.each r)) (λ p kp. begun_settling _ _ _ q p kp (s.each p))
-  coming_in Rise before q r k ne (to_activate ground quiet h) = absurd (ne (quiet r).2)
+  coming_in Rise before q r k ne (to_activate ground quiet ahead h) = absurd (ne (quiet r).2)
   coming_in Rise before q r k ne (on_rise ground (settles_risen s)) = begun_too Rise before q r (coming_settling _ _ _ q r k (s.each r)) (λ p kp. begun_settling _ _ _ q p kp (s.each p))
   coming_in Rise before q r k ne (on_rise ground (is_rising rise)) = absurd (by_part (rise.holds.each r))
     where
@@ -116,7 +117,7 @@ module _ (n : Network) (L : IsLawful n) where
       by_part (a_clocked k' part) = elim part.mode [ inl u ↦ cc | inr w ↦ cc ]
   begun_due (Fall v) before q r p k d kp (settles_first e known base base_in s) = begun_settling _ _ _ q p kp (s.each p)
   begun_due (Fall v) before q r p k d kp (settles_later known s) = begun_settling _ _ _ q p kp (s.each p)
-  begun_due Rise before q r p k d kp (to_activate ground quiet h) = absurd (let m = (quiet r).0 in cc)
+  begun_due Rise before q r p k d kp (to_activate ground quiet ahead h) = absurd (let m = (quiet r).0 in cc)
   begun_due Rise before q r p k d kp (on_rise ground (settles_risen s)) = begun_settling _ _ _ q p kp (s.each p)
   begun_due Rise before q r p k d kp (on_rise ground (is_rising rise)) = λ u. by_part (rise.holds.each p) u
     where
@@ -205,12 +206,12 @@ module _ (n : Network) (L : IsLawful n) where
           by_woke (wakes z d) = inr (d, record { bit = b; by = r; listened = found.1; written = coming.own b (subst (λ (ws : List Write). is_written ws b ≡ true) (sym flat) (is_written-append u rest b found.2)); clocked = k; valued = λ v. found.3 (as_driven ∙ v) })
             where
               rest : List Write
-              rest = flatten (us ++ q.waiting r)
+              rest = flatten (us ++ to_come q r)
 
-              flat : flatten (q.active r ++ q.waiting r) ≡ u ++ rest
-              flat = flat_front u us (q.active r) (q.waiting r) a
+              flat : flatten (q.active r ++ to_come q r) ≡ u ++ rest
+              flat = flat_front u us (q.active r) (to_come q r) a
 
-              split : (b : ℕ) → times (flatten (q.active r ++ q.waiting r)) b ≡ times u b + times rest b
+              split : (b : ℕ) → times (flatten (q.active r ++ to_come q r)) b ≡ times u b + times rest b
               split b = ap (λ ws. times ws b) flat ∙ times-append u rest b
 
               found : (b : ℕ) × (listens (n.process p) b ≡ true) × (is_written u b ≡ true) × ((changes n q_f u).now b ≢ X)
@@ -314,6 +315,7 @@ module _ (n : Network) (L : IsLawful n) where
       asleep_step (Run r) ne st nd h = ran_first r st.1 nd h (kind (n.process r)) refl st.0
       asleep_step (Take r) ne st nd h = taken r nd h st (kind (n.process r)) refl
       asleep_step Activate ne st nd h = inl (nd, h)
+      asleep_step (Advance time) ne st nd h = inl (nd, h)
       asleep_step Next ne st nd h = absurd (ne refl)
 
       due_step : (c : Choice) → c ≢ Next → c ≢ Run p → IsStep n q c → q.mode p ≡ Due → (after n q c).mode p ≡ Due
@@ -327,6 +329,7 @@ module _ (n : Network) (L : IsLawful n) where
           at_list [] = d
           at_list (u ∷ us) = due_stays (record q { active = put q.active r us }) u d
       due_step Activate ne nr st d = d
+      due_step (Advance time) ne nr st d = d
       due_step Next ne nr st d = absurd (ne refl)
 
       ghost_step : (c : Choice) → c ≢ Next → c ≢ Run p → IsStep n q c → (g : Ghost slot before q) → (g' : Ghost slot before (after n q c)) × (ran g' ≡ ran g) × (differed g' ≡ differed g)
@@ -419,6 +422,7 @@ module _ (n : Network) (L : IsLawful n) where
         at_end (Run r ∷ cs) a d = absurd a
         at_end (Take r ∷ cs) a d = absurd a
         at_end (Activate ∷ cs) a d = absurd a
+        at_end (Advance time ∷ cs) a d = absurd a
     run_tells (Next ∷ cs) later slot [] before q alt es inside done after_slot g = absurd (done.0.1 es)
     run_tells (Next ∷ cs) later slot (next ∷ rest) before q alt es inside done after_slot g =
         let over = rested_of n L slot before q inside done.0.0 in

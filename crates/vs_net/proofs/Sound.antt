@@ -5,6 +5,7 @@ use Rattle.vs_net.specs.Network.{State, Write, Update, is_written, flatten, Netw
 use Rattle.vs_net.specs.Queue.{Queue, Slot, Fall, Rise}
 use Rattle.vs_net.specs.Lawful.{IsLawful, Settles}
 use Rattle.vs_net.proofs.Basics.{is_written-append, is_written-append_right}
+use Rattle.vs_net.proofs.Delays.{to_come}
 use Rattle.vs_net.proofs.Parts.{IsInput, Phase, Own, WriterPart}
 use Rattle.vs_net.proofs.Settling.{Each, an_assign, an_input, a_comb, a_clocked, CombRest, CombPart, ClockedPart, clocked_rests, clocked_fires, clocked_due, Unrun}
 use Rattle.vs_net.proofs.Nets.{nets}
@@ -37,7 +38,7 @@ module _ (n : Network) (L : IsLawful n) where
   at_rest q p e a = record { pend = λ ws h. absurd cc; own = no_updates q p a; none = λ s. a }
 
   of_writer : (ph : Phase) (q : Queue) (p : ℕ) → (Settles (kind (n.process p)) → ⊥) → WriterPart n ph q p → SoundAt n q p
-  of_writer ph q p k part = record { pend = λ ws h. absurd (let e = part.pending in cc); own = λ b h. part.own b (flat_left (q.active p) (q.waiting p) b h); none = λ s. absurd (k s) }
+  of_writer ph q p k part = record { pend = λ ws h. absurd (let e = part.pending in cc); own = λ b h. part.own b (flat_left (q.active p) (to_come q p) b h); none = λ s. absurd (k s) }
 
   input_settles_not : (k : Kind) → IsInput k → Settles k → ⊥
   input_settles_not AnInput i s = s
@@ -56,7 +57,7 @@ module _ (n : Network) (L : IsLawful n) where
   clocked_settles_not p k s = subst Settles k s
 
   of_unrun : (ph : Phase) (q : Queue) (p : ℕ) → kind (n.process p) ≡ AClocked → Unrun n ph q p → SoundAt n q p
-  of_unrun ph q p k u = record { pend = λ ws h. absurd (let e = u.pending in cc); own = λ b h. own_initial_updates n L p b (u.left b (flat_left (q.active p) (q.waiting p) b h)); none = λ s. absurd (clocked_settles_not p k s) }
+  of_unrun ph q p k u = record { pend = λ ws h. absurd (let e = u.pending in cc); own = λ b h. own_initial_updates n L p b (u.left b (flat_left (q.active p) (to_come q p) b h)); none = λ s. absurd (clocked_settles_not p k s) }
 
   of_clocked : (ph : Phase) (q : Queue) (p : ℕ) → kind (n.process p) ≡ AClocked → ClockedPart n ph q p → SoundAt n q p
   of_clocked ph q p k (clocked_rests m w once past) = of_writer ph q p (clocked_settles_not p k) w
@@ -70,6 +71,6 @@ module _ (n : Network) (L : IsLawful n) where
   sound_of (Fall v) before q (is_early e known early) p = of_each _ (EarlyComb n) (EarlyClocked n) q p (λ part. part.rest) (λ k part. record { pend = λ ws h. absurd (let e = part.pending in cc); own = λ b h. own_initial n L p b (early.initial p b h); none = λ s. absurd (clocked_settles_not p k s) }) (early.holds.each p)
   sound_of (Fall v) before q (settles_first e known base base_in s) p = of_settling _ _ _ q p (s.each p)
   sound_of (Fall v) before q (settles_later known s) p = of_settling _ _ _ q p (s.each p)
-  sound_of Rise before q (to_activate ground quiet r) p = at_rest q p (quiet p).1 (quiet p).2
+  sound_of Rise before q (to_activate ground quiet ahead r) p = at_rest q p (quiet p).1 (quiet p).2
   sound_of Rise before q (on_rise ground (is_rising r)) p = of_each _ (RisingComb n L before) (RisingClocked n before) q p (λ part. part.rest) (λ k part. at_rest q p part.pending part.active) (r.holds.each p)
   sound_of Rise before q (on_rise ground (settles_risen s)) p = of_settling _ _ _ q p (s.each p)

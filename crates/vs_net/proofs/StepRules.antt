@@ -1,11 +1,11 @@
 -- What the steps do.
-use Rattle.std.proofs.Common.{◌≡◌, ◌≢◌, ℕ, Bool, true, false, List, [], ◌∷◌, ◌++◌, ◌||◌, ◌&&◌, ◌==◌, inl, inr, refl, sym, ap, ◌∙◌, subst, Option, Some, None, unwrap_or, eqb-true, eq-eqb, map}
-use Rattle.std.proofs.lemmas.Bool.{cond-true, cond-false, both_ways, and_parts}
+use Rattle.std.proofs.Common.{◌≡◌, ◌≢◌, ℕ, zero, suc, ◌+◌, ◌<◌, ◌≤◌, Bool, true, false, List, [], ◌∷◌, ◌++◌, ◌||◌, ◌&&◌, ◌==◌, inl, inr, refl, sym, ap, ◌∙◌, subst, Option, Some, None, unwrap_or, eqb-true, eq-eqb, map, arith}
+use Rattle.std.proofs.lemmas.Bool.{cond-true, cond-false, both_ways, and_parts, cases_lt}
 use Rattle.vs_four.specs.declared.Bit4.{Bit4}
 use Rattle.vs_four.specs.declared.Bit4.TheVariants.{Zero, One, X, Z}
 use Rattle.vs_four.specs.Tables.{same}
-use Rattle.vs_net.specs.Network.{posedge, is_edge, Reset, resets, State, Write, Update, put, write_all, flatten, Process, Input, Clock, Assign, Comb, Clocked, Network, listens, made, updates, senses}
-use Rattle.vs_net.specs.Queue.{Mode, Waiting, Due, Slot, Queue, woken, change, changes, is_held, Choice, Start, Evaluate, Apply, Run, Take, Activate, Next, IsStill, IsPossible, to_write, drive, begun, took, after}
+use Rattle.vs_net.specs.Network.{posedge, is_edge, Reset, resets, State, Write, Update, Delayed, at_delay, but_delay, postponed, undelayed, delayed, put, write_all, flatten, Process, Input, Clock, Assign, Comb, Clocked, Network, listens, made, senses}
+use Rattle.vs_net.specs.Queue.{Mode, Waiting, Due, Slot, Queue, woken, change, changes, is_held, Choice, Start, Evaluate, Apply, Run, Take, Activate, Advance, Next, IsStill, IsNoSooner, IsSoonest, IsPossible, to_write, drive, begun, took, after}
 use Rattle.vs_net.specs.LevelRun.{after_all}
 use Rattle.vs_net.specs.Steps.{PosedgeTable, NegedgeTable, HasValues, OnePending, IsSensitive, IsWoken, WriteRule, WritesRule, StepWrites, Waking, IsAlone, RegionRule, UpdateRule, Regions}
 use Rattle.vs_net.proofs.Basics.{by_test, put-same, put-other, same_is, write_all_at, write_all-append}
@@ -202,6 +202,7 @@ module _ (n : Network) (q : Queue) where
   alone_activate h (Run p) ne o = h.0 (Run p) o
   alone_activate h (Take p) ne o = h.0 (Take p) o
   alone_activate h Activate ne o = ne refl
+  alone_activate h (Advance time) ne o = h.1.1 (o.0.1 h.1.0)
   alone_activate h Next ne o = h.1.1 (o.0.1 h.1.0)
 
   alone_next : IsPossible n q Next → IsAlone n q Next
@@ -211,7 +212,40 @@ module _ (n : Network) (q : Queue) where
   alone_next h (Run p) ne o = h.0.0 (Run p) o
   alone_next h (Take p) ne o = h.0.0 (Take p) o
   alone_next h Activate ne o = o.1.1 (h.0.1 o.1.0)
+  alone_next h (Advance time) ne o = o.1.0.1 (ap (at_delay time) (h.0.2 o.1.0.0))
   alone_next h Next ne o = ne refl
+
+  -- an update that comes at this time comes no sooner than at another least one
+  at_most : (time sooner : ℕ) (ds : List Delayed) → IsNoSooner time ds → at_delay sooner ds ≢ [] → time ≤ sooner
+  at_most time sooner [] h some = absurd (some refl)
+  at_most time sooner (d ∷ ds) h some = by_test (d.delay == sooner)
+      (λ e. subst (λ (x : ℕ). time ≤ x) (eqb-true d.delay sooner e) h.0)
+      (λ e. at_most time sooner ds h.1 (λ z. some (cond-false (d.delay == sooner) (d ∷ at_delay sooner ds) (at_delay sooner ds) e ∙ z)))
+
+  same_time : (time other : ℕ) → IsSoonest q time → IsSoonest q other → other ≡ time
+  same_time time other s o =
+      let a = at_most time other (q.later o.0.0) (s.1 o.0.0) o.0.1 in
+      let b = at_most other time (q.later s.0.0) (o.1 s.0.0) s.0.1 in omega arith
+
+  alone_advance : (time : ℕ) → IsPossible n q (Advance time) → IsAlone n q (Advance time)
+  alone_advance time h (Start p) ne o = h.0.0 (Start p) o
+  alone_advance time h (Evaluate p) ne o = h.0.0 (Evaluate p) o
+  alone_advance time h (Apply p) ne o = h.0.0 (Apply p) o
+  alone_advance time h (Run p) ne o = h.0.0 (Run p) o
+  alone_advance time h (Take p) ne o = h.0.0 (Take p) o
+  alone_advance time h Activate ne o = o.1.1 (h.0.1 o.1.0)
+  alone_advance time h (Advance other) ne o = ne (ap Advance (same_time time other h.1 o.1))
+  alone_advance time h Next ne o = h.1.0.1 (ap (at_delay time) (o.0.2 h.1.0.0))
+
+  still_advance : (time : ℕ) → IsAlone n q (Advance time) → IsStill n q
+  still_advance time a (Start p) o = a (Start p) (λ e. cc) o
+  still_advance time a (Evaluate p) o = a (Evaluate p) (λ e. cc) o
+  still_advance time a (Apply p) o = a (Apply p) (λ e. cc) o
+  still_advance time a (Run p) o = a (Run p) (λ e. cc) o
+  still_advance time a (Take p) o = a (Take p) (λ e. cc) o
+  still_advance time a Activate o = o
+  still_advance time a (Advance other) o = o
+  still_advance time a Next o = o
 
   still_activate : IsAlone n q Activate → IsStill n q
   still_activate a (Start p) o = a (Start p) (λ e. cc) o
@@ -220,6 +254,7 @@ module _ (n : Network) (q : Queue) where
   still_activate a (Run p) o = a (Run p) (λ e. cc) o
   still_activate a (Take p) o = a (Take p) (λ e. cc) o
   still_activate a Activate o = o
+  still_activate a (Advance time) o = o
   still_activate a Next o = o
 
   still_next : IsAlone n q Next → IsStill n q
@@ -229,20 +264,62 @@ module _ (n : Network) (q : Queue) where
   still_next a (Run p) o = a (Run p) (λ e. cc) o
   still_next a (Take p) o = a (Take p) (λ e. cc) o
   still_next a Activate o = o
+  still_next a (Advance time) o = o
   still_next a Next o = o
 
   none_active : IsStill n q → (p : ℕ) → q.active p ≡ []
   none_active still p = empty_of (q.active p) (λ h. still (Take p) h)
 
-  next_begun : (slot : Slot) (slots : List Slot) → q.slots ≡ slot ∷ slots → after n q Next ≡ record q { waiting = λ p. drive (n.process p) slot; slots = slots }
+  next_begun : (slot : Slot) (slots : List Slot) → q.slots ≡ slot ∷ slots → after n q Next ≡ record q { waiting = λ p. drive (n.process p) slot; time = 0; slots = slots }
   next_begun slot slots e = ap (begun n q) e
+
+  waiting_spent : IsStill n q → (IsPossible n q Activate → ⊥) → (p : ℕ) → q.waiting p ≡ []
+  waiting_spent still refuted p = empty_of (q.waiting p) (λ ne. refuted (still, (p, ne)))
+
+  -- where no later time can come none is to come: there is no least one
+  none_at : IsStill n q → ((p : ℕ) → q.waiting p ≡ []) → ((time : ℕ) → IsPossible n q (Advance time) → ⊥) → (time : ℕ) → ((sooner : ℕ) → sooner < time → (p : ℕ) → at_delay sooner (q.later p) ≡ []) → (p : ℕ) → at_delay time (q.later p) ≡ []
+  none_at still spent refuted time below p = none_delayed_at (at_delay time (q.later p)) (λ ne. refuted time ((still, spent), ((p, ne), λ r. no_sooner (q.later r) (λ s l. below s l r))))
+    where
+      none_delayed_at : (ds : List Delayed) → ¬ (ds ≢ []) → ds ≡ []
+      none_delayed_at [] h = refl
+      none_delayed_at (d ∷ ds) h = absurd (h (λ e. cc))
+
+      none_in : (d : Delayed) (ds : List Delayed) (s : ℕ) → at_delay s (d ∷ ds) ≡ [] → at_delay s ds ≡ []
+      none_in d ds s h = by_test (d.delay == s)
+          (λ e. absurd (let y = cond-true (d.delay == s) (d ∷ at_delay s ds) (at_delay s ds) e in cc))
+          (λ e. sym (cond-false (d.delay == s) (d ∷ at_delay s ds) (at_delay s ds) e) ∙ h)
+
+      no_sooner : (ds : List Delayed) → ((sooner : ℕ) → sooner < time → at_delay sooner ds ≡ []) → IsNoSooner time ds
+      no_sooner [] h = tt
+      no_sooner (d ∷ ds) h = (
+        elim (cases_lt d.delay time) [
+          | inl l ↦ absurd (let z = h d.delay l in let y = cond-true (d.delay == d.delay) (d ∷ at_delay d.delay ds) (at_delay d.delay ds) (eq-eqb d.delay d.delay refl) in cc)
+          | inr l ↦ l
+        ],
+        no_sooner ds (λ s l. none_in d ds s (h s l)),
+      )
+
+  none_below : IsStill n q → ((p : ℕ) → q.waiting p ≡ []) → ((time : ℕ) → IsPossible n q (Advance time) → ⊥) → (bound time : ℕ) → time < bound → (p : ℕ) → at_delay time (q.later p) ≡ []
+  none_below still spent refuted zero time l p = absurd (omega arith)
+  none_below still spent refuted (suc k) time l p = none_at still spent refuted time (λ s ls. none_below still spent refuted k s (omega arith)) p
+
+  none_later : IsStill n q → ((p : ℕ) → q.waiting p ≡ []) → ((time : ℕ) → IsPossible n q (Advance time) → ⊥) → (p : ℕ) → q.later p ≡ []
+  none_later still spent refuted p = by_list (q.later p) refl
+    where
+      by_list : (ds : List Delayed) → q.later p ≡ ds → q.later p ≡ []
+      by_list [] e = e
+      by_list (d ∷ ds) e = absurd (
+          let z = ap (at_delay d.delay) (sym e) ∙ none_below still spent refuted (d.delay + 1) d.delay (omega arith) p in
+          let y = cond-true (d.delay == d.delay) (d ∷ at_delay d.delay ds) (at_delay d.delay ds) (eq-eqb d.delay d.delay refl) in cc)
 
   pub region_rule : RegionRule n q
   region_rule = record {
     activate = ((λ h. (h.1, alone_activate h)), (λ h. (still_activate h.1, h.0)));
-    next = ((λ h. (h.1, alone_next h)), (λ h. let still = still_next h.1 in ((still, (λ p. empty_of (q.waiting p) (λ ne. h.1 Activate (λ e. cc) (still, (p, ne))))), h.0)));
+    advance = λ time. ((λ h. (h.1, alone_advance time h)), (λ h. let still = still_advance time h.1 in ((still, waiting_spent still (h.1 Activate (λ e. cc))), h.0)));
+    next = ((λ h. (h.1, alone_next h)), (λ h. let still = still_next h.1 in let spent = waiting_spent still (h.1 Activate (λ e. cc)) in ((still, spent, none_later still spent (λ time. h.1 (Advance time) (λ e. cc))), h.0)));
     activated = λ h p. (none_active h.0 p, refl, refl);
-    begun = λ h slot slots e. let b = next_begun slot slots e in (ap (λ (x : Queue). x.slots) b, (λ p. (none_active h.0.0 p, h.0.1 p, ap (λ (x : Queue). x.waiting p) b)));
+    advanced = λ time h p. (none_active h.0.0 p, h.0.1 p, refl, refl);
+    begun = λ h slot slots e. let b = next_begun slot slots e in (ap (λ (x : Queue). x.slots) b, (λ p. (none_active h.0.0 p, h.0.1 p, h.0.2 p, ap (λ (x : Queue). x.waiting p) b)));
   }
 
 first_taken : (n : Network) (q : Queue) (p : ℕ) (u : Update) (us : List Update) → q.active p ≡ u ∷ us → ((after n q (Take p)).active p ≡ us) × ((b : ℕ) → (after n q (Take p)).now b ≡ write_all q.now u b)
@@ -265,6 +342,7 @@ active_kept n q p (Take r) ne na = at_list (q.active r)
     at_list [] = refl
     at_list (u ∷ us) = ap (λ (f : ℕ → List Update). f p) (changes_all n u (record q { active = put q.active r us })).active ∙ put-other q.active r us p (λ e. ne (ap Take (sym e)))
 active_kept n q p Activate ne na = absurd (na refl)
+active_kept n q p (Advance time) ne na = refl
 active_kept n q p Next ne na = at_list q.slots
   where
     at_list : (slots : List Slot) → (begun n q slots).active p ≡ q.active p
@@ -283,7 +361,8 @@ all_taken n p (u ∷ us) q e =
 
 pub update_rule : (n : Network) (q : Queue) (p : ℕ) → UpdateRule n q p
 update_rule n q p = record {
-  added = put-same done.waiting p (done.waiting p ++ updates (n.process p) q.now) ∙ ap (λ (f : ℕ → List Update). f p ++ updates (n.process p) q.now) (changes_all n (made (n.process p) q.now) q).waiting;
+  added = put-same done.waiting p (done.waiting p ++ undelayed (at_delay 0 us)) ∙ ap (λ (f : ℕ → List Update). f p ++ undelayed (at_delay 0 us)) ch.waiting;
+  behind = put-same done.later p (done.later p ++ postponed done.time (but_delay 0 us)) ∙ ap (λ (f : ℕ → List Delayed). f p ++ postponed done.time (but_delay 0 us)) ch.later ∙ ap (λ (t : ℕ). q.later p ++ postponed t (but_delay 0 us)) ch.time;
   first = first_taken n q p;
   kept = active_kept n q p;
   all = λ us e. all_taken n p us q e;
@@ -291,6 +370,12 @@ update_rule n q p = record {
   where
     done : Queue
     done = changes n q (made (n.process p) q.now)
+
+    us : List Delayed
+    us = delayed (n.process p) q.now
+
+    ch : Changed n q done (made (n.process p) q.now)
+    ch = changes_all n (made (n.process p) q.now) q
 
 pub regions : Regions
 regions = record { rule = region_rule; order = update_rule }

@@ -2,10 +2,11 @@
 use Rattle.std.proofs.Common.{◌≡◌, ◌≢◌, ℕ, Bool, true, false, List, [], ◌∷◌, ◌++◌, ◌||◌, ◌⊎◌, inl, inr, refl, sym, ap, ◌∙◌, subst, Option, Some, None, unwrap_or}
 use Rattle.std.proofs.lemmas.Bool.{both_ways, cond-true, cond-false}
 use Rattle.vs_four.specs.declared.Bit4.{Bit4}
-use Rattle.vs_net.specs.Network.{Edge, Posedge, is_edge, Reset, reset_of, State, Write, Update, put, write_all, is_written, flatten, Process, Network, AnAssign, AComb, AClocked, kind, writes, listens, clock_net, made, updates}
+use Rattle.vs_net.specs.Network.{Edge, Posedge, is_edge, Reset, reset_of, State, Write, Update, Delayed, at_delay, but_delay, postponed, undelayed, put, write_all, is_written, flatten, Process, Network, AnAssign, AComb, AClocked, kind, writes, listens, clock_net, made, delayed}
 use Rattle.vs_net.specs.Queue.{Mode, Waiting, Queue, changes, is_held, to_write, woken, evaluated, applied, ran, took}
 use Rattle.vs_net.specs.Lawful.{IsLawful, Settles}
 use Rattle.vs_net.proofs.Basics.{by_test, same_number, put-same, put-other, write_all_at, write_all_again, write_all-append, held_stays, is_written-append, is_written-append_right}
+use Rattle.vs_net.proofs.Delays.{to_come, to_come_same, none_delayed}
 use Rattle.vs_net.proofs.Waking.{Woke, stays, wakes, Changed, changes_all, changes_clock, edge_same, woken_calm, fires, fires_reset, fires_none, fires_still}
 use Rattle.vs_net.proofs.Nets.{Family, IsPort, nets, clock_net_family, reset_net_family, off_nets, port_of}
 use Rattle.vs_net.proofs.Parts.{IsInput, inputs_deaf, input_not_clocked, Acts, acts_on, acts_mode, acts_pending, acts_active, acts_waiting, acts_changes, Own, Agrees, AssignOk, is_due, is_pending, is_settled, Phase, PortOk, AssignPart, WriterPart, InputPart, Steady, settles_assign, sure_assign}
@@ -171,6 +172,7 @@ module _ (n : Network) (L : IsLawful n) (ph : Phase) where
           ];
           active = part.active;
           waiting = part.waiting;
+          later = part.later;
           port = evaluated_port;
         }
 
@@ -245,6 +247,7 @@ module _ (n : Network) (L : IsLawful n) (ph : Phase) where
           own = λ xs e. absurd (let z = applied_pending in cc);
           active = ap (λ (f : ℕ → List Update). f p) ch.active ∙ part.active;
           waiting = ap (λ (f : ℕ → List Update). f p) ch.waiting ∙ part.waiting;
+          later = ap (λ (f : ℕ → List Delayed). f p) ch.later ∙ part.later;
           port = applied_port;
         }
 
@@ -268,21 +271,21 @@ module _ (n : Network) (L : IsLawful n) (ph : Phase) where
     pub took_is : took n q p (q.active p) ≡ q_took
     took_is = ap (λ x. took n q p x) active
 
-    coming_is : q.active p ++ q.waiting p ≡ u ∷ (us ++ q.waiting p)
-    coming_is = ap (λ x. x ++ q.waiting p) active
+    coming_is : q.active p ++ to_come q p ≡ u ∷ (us ++ to_come q p)
+    coming_is = ap (λ x. x ++ to_come q p) active
 
-    pub coming_took : q_took.active p ++ q_took.waiting p ≡ us ++ q.waiting p
+    pub coming_took : q_took.active p ++ to_come q_took p ≡ us ++ to_come q p
     coming_took =
-        ap (λ (x : List Update). x ++ q_took.waiting p) (ap (λ (f : ℕ → List Update). f p) took_ch.active ∙ put-same q.active p us)
-        ∙ ap (λ (x : List Update). us ++ x) (ap (λ (f : ℕ → List Update). f p) took_ch.waiting)
+        ap (λ (x : List Update). x ++ to_come q_took p) (ap (λ (f : ℕ → List Update). f p) took_ch.active ∙ put-same q.active p us)
+        ∙ ap (λ (x : List Update). us ++ x) (to_come_same q_took q p (ap (λ (f : ℕ → List Update). f p) took_ch.waiting) (ap (λ (f : ℕ → List Delayed). f p) took_ch.later))
 
     module _ (writer : WriterPart n ph q p) where
-      pub took_flat : flatten (q.active p ++ q.waiting p) ≡ u ++ flatten (us ++ q.waiting p)
+      pub took_flat : flatten (q.active p ++ to_come q p) ≡ u ++ flatten (us ++ to_come q p)
       unfolding flatten
       took_flat = ap flatten coming_is
 
       pub own_u : Own n p u
-      own_u b e = writer.own b (subst (λ (x : List Write). is_written x b ≡ true) (sym took_flat) (is_written-append u (flatten (us ++ q.waiting p)) b e))
+      own_u b e = writer.own b (subst (λ (x : List Write). is_written x b ≡ true) (sym took_flat) (is_written-append u (flatten (us ++ to_come q p)) b e))
 
       pub took_acts : Acts n p q q_took
       took_acts = acts_on n p q q_fewer q_took (acts_active n p q us) (acts_changes n p q_fewer u own_u)
@@ -291,11 +294,11 @@ module _ (n : Network) (L : IsLawful n) (ph : Phase) where
       took_writer =
           record {
             pending = ap (λ (f : ℕ → Option (List Write)). f p) took_ch.pending ∙ writer.pending;
-            own = λ b e. writer.own b (subst (λ (x : List Write). is_written x b ≡ true) (sym took_flat) (is_written-append_right u (flatten (us ++ q.waiting p)) b (subst (λ (x : List Update). is_written (flatten x) b ≡ true) coming_took e)));
+            own = λ b e. writer.own b (subst (λ (x : List Write). is_written x b ≡ true) (sym took_flat) (is_written-append_right u (flatten (us ++ to_come q p)) b (subst (λ (x : List Update). is_written (flatten x) b ≡ true) coming_took e)));
             coming = λ b w.
                 ap (λ x. write_all q_took.now (flatten x) b) coming_took
-                ∙ write_all_at (flatten (us ++ q.waiting p)) q_took.now (write_all q.now u) b (took_ch.now b)
-                ∙ sym (ap (λ (s : State). s b) (write_all-append u (flatten (us ++ q.waiting p)) q.now))
+                ∙ write_all_at (flatten (us ++ to_come q p)) q_took.now (write_all q.now u) b (took_ch.now b)
+                ∙ sym (ap (λ (s : State). s b) (write_all-append u (flatten (us ++ to_come q p)) q.now))
                 ∙ ap (λ x. write_all q.now x b) (sym took_flat)
                 ∙ writer.coming b w;
           }
@@ -341,7 +344,7 @@ module _ (n : Network) (L : IsLawful n) (ph : Phase) where
     pub ran_acts : Acts n p q q_ran
     ran_acts =
         acts_on n p q q_done q_ran (acts_changes n p q (made (n.process p) q.now) ran_own)
-        (acts_on n p q_done (record q_done { mode = put q_done.mode p Waiting }) q_ran (acts_mode n p q_done Waiting) (acts_waiting n p (record q_done { mode = put q_done.mode p Waiting }) (q_done.waiting p ++ updates (n.process p) q.now)))
+        (acts_on n p q_done (record q_done { mode = put q_done.mode p Waiting }) q_ran (acts_mode n p q_done Waiting) (acts_waiting n p (record q_done { mode = put q_done.mode p Waiting }) (q_done.waiting p ++ undelayed (at_delay 0 (delayed (n.process p) q.now))) (q_done.later p ++ postponed q_done.time (but_delay 0 (delayed (n.process p) q.now)))))
 
     pub ran_did : Did n L ph p q q_ran
     ran_did = did_off_nets p q q_ran ran_acts (off_nets n L p (λ e. cc) (λ i. subst IsInput k i)) nets_in
@@ -357,11 +360,20 @@ module _ (n : Network) (L : IsLawful n) (ph : Phase) where
         ∙ write_all_again (made (n.process p) q.now) q.now b
         ∙ sym (ran_ch.now b)
 
+    no_update : delayed (n.process p) q.now ≡ []
+    no_update = none_delayed (delayed (n.process p) q.now) (L.comb_updates p q.now k)
+
     pub ran_waiting : q_ran.waiting p ≡ []
     ran_waiting =
-        put-same q_done.waiting p (q_done.waiting p ++ updates (n.process p) q.now)
-        ∙ ap (λ (x : List Update). x ++ updates (n.process p) q.now) (ap (λ (f : ℕ → List Update). f p) ran_ch.waiting ∙ waiting)
-        ∙ L.comb_updates p q.now k
+        put-same q_done.waiting p (q_done.waiting p ++ undelayed (at_delay 0 (delayed (n.process p) q.now)))
+        ∙ ap (λ (x : List Update). x ++ undelayed (at_delay 0 (delayed (n.process p) q.now))) (ap (λ (f : ℕ → List Update). f p) ran_ch.waiting ∙ waiting)
+        ∙ ap (λ (ds : List Delayed). undelayed (at_delay 0 ds)) no_update
+
+    pub ran_later : q.later p ≡ [] → q_ran.later p ≡ []
+    ran_later l =
+        put-same q_done.later p (q_done.later p ++ postponed q_done.time (but_delay 0 (delayed (n.process p) q.now)))
+        ∙ ap (λ (x : List Delayed). x ++ postponed q_done.time (but_delay 0 (delayed (n.process p) q.now))) (ap (λ (f : ℕ → List Delayed). f p) ran_ch.later ∙ l)
+        ∙ ap (λ (ds : List Delayed). postponed q_done.time (but_delay 0 ds)) no_update
 
     pub ran_active : q_ran.active p ≡ q.active p
     ran_active = ap (λ (f : ℕ → List Update). f p) ran_ch.active

@@ -6,19 +6,26 @@ use Rattle.vs_net.proofs.Parts.{Acts, made_off}
 use Rattle.std.proofs.Common.{◌≡◌, ◌≢◌, ℕ, ◌<◌, ◌≤◌, Bool, true, false, List, [], ◌∷◌, ◌++◌, ◌||◌, map, ◌⊎◌, inl, inr, refl, sym, ap, ◌∙◌, subst, Option, Some, None, unwrap_or, append-nil, if◌then◌else◌, arith}
 use Rattle.std.specs.List.{list_any}
 use Rattle.std.proofs.lemmas.Bool.{both_ways, cond-true, cond-false, cases_lt}
-use Rattle.vs_net.specs.Network.{Write, Update, put, is_written, Network, Kind, AnInput, TheClock, AnAssign, AComb, AClocked, kind, writes, listens, made, updates, State, clock_net}
+use Rattle.vs_net.specs.Network.{Write, Update, Delayed, at_delay, but_delay, postponed, undelayed, delayed, put, is_written, Network, Kind, AnInput, TheClock, AnAssign, AComb, AClocked, kind, writes, listens, made, State, clock_net}
 use Rattle.vs_net.specs.Queue.{Mode, Unstarted, Waiting, Due, Queue, changes, is_held, to_write, Choice, Start, Evaluate, Apply, Run, Take, Activate, IsBlock, after, evaluated, ran, took, started}
 use Rattle.vs_net.specs.Lawful.{IsLawful, IsOrdered, Settles}
 use Rattle.vs_net.specs.LevelRun.{after_all, each_in, below, starting, settling, running, is_empty, Activates, sweep}
 use Rattle.vs_net.proofs.Basics.{by_test, same_number, put-same, put-other}
 use Rattle.vs_net.proofs.Waking.{Woke, stays, wakes, Changed, changes_all}
+use Rattle.vs_net.proofs.Delays.{none_delayed}
 use Rattle.vs_net.proofs.Paths.{LocalPath, local_append, after_all-append, In, in_below, Turned, Swept, each_swept, turned_none, turned_cons}
 
--- no value is pending, all has been started, and these updates wait
-pub record Rest (w : ℕ → List Update) (q : Queue) : Type 0 where
+-- updates that wait, and updates that come later
+pub record Ahead : Type 0 where
+  pub waiting : ℕ → List Update
+  pub later : ℕ → List Delayed
+
+-- no value is pending, all has been started, and these updates are ahead
+pub record Rest (w : Ahead) (q : Queue) : Type 0 where
   pub pending : (p : ℕ) → q.pending p ≡ None
   pub begun : (p : ℕ) → q.mode p ≢ Unstarted
-  pub waiting : (p : ℕ) → q.waiting p ≡ w p
+  pub waiting : (p : ℕ) → q.waiting p ≡ w.waiting p
+  pub later : (p : ℕ) → q.later p ≡ w.later p
 
 pub waits_or_due : (m : Mode) → m ≢ Unstarted → m ≢ Due → m ≡ Waiting
 waits_or_due Unstarted u d = absurd (u refl)
@@ -34,10 +41,11 @@ module _ (n : Network) (L : IsLawful n) where
   not_begun_less q q' r (wakes m d) h = λ u. cc
 
   -- the blocks start
-  pub record Fresh (w : ℕ → List Update) (q : Queue) : Type 0 where
+  pub record Fresh (w : Ahead) (q : Queue) : Type 0 where
     pub pending : (p : ℕ) → q.pending p ≡ None
     pub active : (p : ℕ) → n.count ≤ p → q.active p ≡ []
-    pub waiting : (p : ℕ) → q.waiting p ≡ w p
+    pub waiting : (p : ℕ) → q.waiting p ≡ w.waiting p
+    pub later : (p : ℕ) → q.later p ≡ w.later p
 
   abbrev pub Begun : Queue → ℕ → Type 0
   Begun q p = q.mode p ≢ Unstarted
@@ -45,15 +53,15 @@ module _ (n : Network) (L : IsLawful n) where
   abbrev start_turn : Queue → ℕ → List Choice
   start_turn r p = starting (r.mode p) p
 
-  start_ok : (w : ℕ → List Update) (q : Queue) (p : ℕ) → Fresh w q → (m : Mode) → q.mode p ≡ m → Turned n start_turn (Fresh w) Begun q p (starting m p)
+  start_ok : (w : Ahead) (q : Queue) (p : ℕ) → Fresh w q → (m : Mode) → q.mode p ≡ m → Turned n start_turn (Fresh w) Begun q p (starting m p)
   start_ok w q p r Unstarted e =
       turned_cons n start_turn (Fresh w) Begun q (started q p) p (Start p) [] (λ x. cc) e refl
       (λ x h. same_number x p (λ f u. let m = subst (λ (y : ℕ). put q.mode p Waiting y ≡ Waiting) (sym f) (put-same q.mode p Waiting) in cc) (λ ne u. h (sym (put-other q.mode p Waiting x ne) ∙ u)))
-      (turned_none n start_turn (Fresh w) Begun (started q p) p (record { pending = r.pending; active = r.active; waiting = r.waiting }) (λ u. let m = put-same q.mode p Waiting in cc))
+      (turned_none n start_turn (Fresh w) Begun (started q p) p (record { pending = r.pending; active = r.active; waiting = r.waiting; later = r.later }) (λ u. let m = put-same q.mode p Waiting in cc))
   start_ok w q p r Waiting e = turned_none n start_turn (Fresh w) Begun q p r (λ u. cc)
   start_ok w q p r Due e = turned_none n start_turn (Fresh w) Begun q p r (λ u. cc)
 
-  pub starts : (w : ℕ → List Update) (q : Queue) → Fresh w q → Swept n start_turn (Fresh w) Begun q (below n.count) (each_in start_turn n q (below n.count))
+  pub starts : (w : Ahead) (q : Queue) → Fresh w q → Swept n start_turn (Fresh w) Begun q (below n.count) (each_in start_turn n q (below n.count))
   starts w q r = each_swept n start_turn (Fresh w) Begun (λ x p h. start_ok w x p h (x.mode p) refl) (below n.count) q r
 
   -- the updates are taken
@@ -63,7 +71,7 @@ module _ (n : Network) (L : IsLawful n) where
   abbrev take_turn : Queue → ℕ → List Choice
   take_turn r p = map (λ u. Take p) (r.active p)
 
-  take_ok : (w : ℕ → List Update) (p : ℕ) (us : List Update) (q : Queue) → Rest w q → q.active p ≡ us → Turned n take_turn (Rest w) Empty q p (map (λ u. Take p) us)
+  take_ok : (w : Ahead) (p : ℕ) (us : List Update) (q : Queue) → Rest w q → q.active p ≡ us → Turned n take_turn (Rest w) Empty q p (map (λ u. Take p) us)
   take_ok w p [] q r e = turned_none n take_turn (Rest w) Empty q p r e
   take_ok w p (u ∷ us) q r e =
       let q1 = record q { active = put q.active p us } in
@@ -75,18 +83,19 @@ module _ (n : Network) (L : IsLawful n) where
         pending = λ x. ap (λ (f : ℕ → Option (List Write)). f x) ch.pending ∙ r.pending x;
         begun = λ x. not_begun_less q1 (changes n q1 u) x (ch.mode x) (r.begun x);
         waiting = λ x. ap (λ (f : ℕ → List Update). f x) ch.waiting ∙ r.waiting x;
+        later = λ x. ap (λ (f : ℕ → List Delayed). f x) ch.later ∙ r.later x;
       }) now_active)
 
-  pub takes : (w : ℕ → List Update) (q : Queue) → Rest w q → Swept n take_turn (Rest w) Empty q (below n.count) (each_in take_turn n q (below n.count))
+  pub takes : (w : Ahead) (q : Queue) → Rest w q → Swept n take_turn (Rest w) Empty q (below n.count) (each_in take_turn n q (below n.count))
   takes w q r = each_swept n take_turn (Rest w) Empty (λ x p h. take_ok w p (x.active p) x h refl) (below n.count) q r
 
   -- a pass
-  pub record Passing (w : ℕ → List Update) (q : Queue) : Type 0 where
+  pub record Passing (w : Ahead) (q : Queue) : Type 0 where
     pub rest : Rest w q
     pub active : (p : ℕ) → q.active p ≡ []
 
   -- the turn of a process p in a pass
-  record Passed (w : ℕ → List Update) (q : Queue) (p : ℕ) (cs : List Choice) : Type 0 where
+  record Passed (w : Ahead) (q : Queue) (p : ℕ) (cs : List Choice) : Type 0 where
     path : LocalPath n q cs
     kept : Passing w (after_all n q cs)
     own : Settles (kind (n.process p)) → (after_all n q cs).mode p ≡ Waiting
@@ -99,10 +108,10 @@ module _ (n : Network) (L : IsLawful n) where
   settles_not_clocked TheClock s e = absurd s
   settles_not_clocked AClocked s e = absurd s
 
-  passed_none : (w : ℕ → List Update) (q : Queue) (p : ℕ) → Passing w q → (Settles (kind (n.process p)) → q.mode p ≢ Due) → Passed w q p []
+  passed_none : (w : Ahead) (q : Queue) (p : ℕ) → Passing w q → (Settles (kind (n.process p)) → q.mode p ≢ Due) → Passed w q p []
   passed_none w q p r h = record { path = tt; kept = r; own = λ s. waits_or_due (q.mode p) (r.rest.begun p) (h s); others = λ x ne k d. refl }
 
-  module _ (w : ℕ → List Update) (q : Queue) (p : ℕ) (r : Passing w q) (d : q.mode p ≡ Due) where
+  module _ (w : Ahead) (q : Queue) (p : ℕ) (r : Passing w q) (d : q.mode p ≡ Due) where
     module _ (k : kind (n.process p) ≡ AnAssign) where
       abbrev value : List Write
       value = made (n.process p) q.now
@@ -127,6 +136,7 @@ module _ (n : Network) (L : IsLawful n) where
             pending = λ x. same_number x p (λ f. subst (λ (y : ℕ). q_e.pending y ≡ None) (sym f) (pending_e None (cond-true (is_held q.now value) None (Some value) h))) (λ ne. put-other q.pending p (to_write q.now value) x ne ∙ r.rest.pending x);
             begun = mode_e;
             waiting = r.rest.waiting;
+            later = r.rest.later;
           };
           active = r.active;
         };
@@ -166,6 +176,7 @@ module _ (n : Network) (L : IsLawful n) where
             pending = λ x. ap (λ (f : ℕ → Option (List Write)). f x) ch.pending ∙ cleared x;
             begun = λ x. not_begun_less q_c q_a x (ch.mode x) (mode_e x);
             waiting = λ x. ap (λ (f : ℕ → List Update). f x) ch.waiting ∙ r.rest.waiting x;
+            later = λ x. ap (λ (f : ℕ → List Delayed). f x) ch.later ∙ r.rest.later x;
           };
           active = λ x. ap (λ (f : ℕ → List Update). f x) ch.active ∙ r.active x;
         });
@@ -189,14 +200,26 @@ module _ (n : Network) (L : IsLawful n) where
       run_ch : Changed n q q_d run_value
       run_ch = changes_all n run_value q
 
-      run_waiting : (x : ℕ) → q_r.waiting x ≡ w x
+      no_update : delayed (n.process p) q.now ≡ []
+      no_update = none_delayed (delayed (n.process p) q.now) (L.comb_updates p q.now k)
+
+      run_waiting : (x : ℕ) → q_r.waiting x ≡ w.waiting x
       run_waiting x = same_number x p
-          (λ f. subst (λ (y : ℕ). q_r.waiting y ≡ w y) (sym f)
-          (put-same q_d.waiting p (q_d.waiting p ++ updates (n.process p) q.now)
-          ∙ ap (λ (us : List Update). q_d.waiting p ++ us) (L.comb_updates p q.now k)
+          (λ f. subst (λ (y : ℕ). q_r.waiting y ≡ w.waiting y) (sym f)
+          (put-same q_d.waiting p (q_d.waiting p ++ undelayed (at_delay 0 (delayed (n.process p) q.now)))
+          ∙ ap (λ (ds : List Delayed). q_d.waiting p ++ undelayed (at_delay 0 ds)) no_update
           ∙ append-nil (q_d.waiting p)
           ∙ ap (λ (f : ℕ → List Update). f p) run_ch.waiting ∙ r.rest.waiting p))
-          (λ ne. put-other q_d.waiting p (q_d.waiting p ++ updates (n.process p) q.now) x ne ∙ ap (λ (f : ℕ → List Update). f x) run_ch.waiting ∙ r.rest.waiting x)
+          (λ ne. put-other q_d.waiting p (q_d.waiting p ++ undelayed (at_delay 0 (delayed (n.process p) q.now))) x ne ∙ ap (λ (f : ℕ → List Update). f x) run_ch.waiting ∙ r.rest.waiting x)
+
+      run_later : (x : ℕ) → q_r.later x ≡ w.later x
+      run_later x = same_number x p
+          (λ f. subst (λ (y : ℕ). q_r.later y ≡ w.later y) (sym f)
+          (put-same q_d.later p (q_d.later p ++ postponed q_d.time (but_delay 0 (delayed (n.process p) q.now)))
+          ∙ ap (λ (ds : List Delayed). q_d.later p ++ postponed q_d.time (but_delay 0 ds)) no_update
+          ∙ append-nil (q_d.later p)
+          ∙ ap (λ (f : ℕ → List Delayed). f p) run_ch.later ∙ r.rest.later p))
+          (λ ne. put-other q_d.later p (q_d.later p ++ postponed q_d.time (but_delay 0 (delayed (n.process p) q.now))) x ne ∙ ap (λ (f : ℕ → List Delayed). f x) run_ch.later ∙ r.rest.later x)
 
       run_turn : Passed w q p (Run p ∷ [])
       run_turn = record {
@@ -208,6 +231,7 @@ module _ (n : Network) (L : IsLawful n) where
                 (λ f u. let m = subst (λ (y : ℕ). put q_d.mode p Waiting y ≡ Waiting) (sym f) (put-same q_d.mode p Waiting) in cc)
                 (λ ne u. not_begun_less q q_d x (run_ch.mode x) (r.rest.begun x) (sym (put-other q_d.mode p Waiting x ne) ∙ u));
             waiting = run_waiting;
+            later = run_later;
           };
           active = λ x. ap (λ (f : ℕ → List Update). f x) run_ch.active ∙ r.active x;
         };
@@ -218,7 +242,7 @@ module _ (n : Network) (L : IsLawful n) where
   abbrev pass_turn : Queue → ℕ → List Choice
   pass_turn r p = settling (r.mode p) (kind (n.process p)) (is_held r.now (made (n.process p) r.now)) p
 
-  pass_ok : (w : ℕ → List Update) (q : Queue) (p : ℕ) → Passing w q → (m : Mode) → q.mode p ≡ m → (k : Kind) → kind (n.process p) ≡ k → (h : Bool) → is_held q.now (made (n.process p) q.now) ≡ h → Passed w q p (settling m k h p)
+  pass_ok : (w : Ahead) (q : Queue) (p : ℕ) → Passing w q → (m : Mode) → q.mode p ≡ m → (k : Kind) → kind (n.process p) ≡ k → (h : Bool) → is_held q.now (made (n.process p) q.now) ≡ h → Passed w q p (settling m k h p)
   pass_ok w q p r Unstarted e k f h g = absurd (r.rest.begun p e)
   pass_ok w q p r Waiting e k f h g = passed_none w q p r (λ s x. cc)
   pass_ok w q p r Due e AnAssign f true g = held_turn w q p r e f g
@@ -228,12 +252,12 @@ module _ (n : Network) (L : IsLawful n) where
   pass_ok w q p r Due e TheClock f h g = passed_none w q p r (λ s. absurd (subst Settles f s))
   pass_ok w q p r Due e AClocked f h g = passed_none w q p r (λ s. absurd (subst Settles f s))
 
-  pub record PassDone (w : ℕ → List Update) (q : Queue) (cs : List Choice) : Type 0 where
+  pub record PassDone (w : Ahead) (q : Queue) (cs : List Choice) : Type 0 where
     pub path : LocalPath n q cs
     pub kept : Passing w (after_all n q cs)
     pub settled : (p : ℕ) → Settles (kind (n.process p)) → (after_all n q cs).mode p ≡ Waiting
 
-  pass_on : (w : ℕ → List Update) (order : List ℕ) (placed : ℕ → Type 0) (q : Queue) → Passing w q
+  pass_on : (w : Ahead) (order : List ℕ) (placed : ℕ → Type 0) (q : Queue) → Passing w q
       → ((r : ℕ) → placed r → Settles (kind (n.process r)) → q.mode r ≡ Waiting)
       → ((r b x : ℕ) → placed r → listens (n.process r) b ≡ true → writes (n.process x) b ≡ true → Settles (kind (n.process x)) → placed x)
       → IsOrdered n placed order → PassDone w q (each_in pass_turn n q order)
@@ -258,7 +282,7 @@ module _ (n : Network) (L : IsLawful n) where
         settled = λ x s. subst (λ (y : Queue). y.mode x ≡ Waiting) (sym e) (rest.settled x s);
       }
 
-  pub passes : (w : ℕ → List Update) (order : List ℕ) → IsOrdered n (λ p. ⊥) order → (q : Queue) → Passing w q → PassDone w q (each_in pass_turn n q order)
+  pub passes : (w : Ahead) (order : List ℕ) → IsOrdered n (λ p. ⊥) order → (q : Queue) → Passing w q → PassDone w q (each_in pass_turn n q order)
   passes w order o q r = pass_on w order (λ p. ⊥) q r (λ x h s. absurd h) (λ x b y h l wr s. absurd h) o
 
   -- the clocked blocks run; the nets of clocks and resets have these values
@@ -266,8 +290,8 @@ module _ (n : Network) (L : IsLawful n) where
     pub pending : (p : ℕ) → q.pending p ≡ None
     pub active : (p : ℕ) → q.active p ≡ []
     pub begun : (p : ℕ) → q.mode p ≢ Unstarted
-    pub spent : (p : ℕ) → kind (n.process p) ≢ AClocked → q.waiting p ≡ []
-    pub beyond : (p : ℕ) → n.count ≤ p → q.waiting p ≡ []
+    pub spent : (p : ℕ) → kind (n.process p) ≢ AClocked → (q.waiting p ≡ []) × (q.later p ≡ [])
+    pub beyond : (p : ℕ) → n.count ≤ p → (q.waiting p ≡ []) × (q.later p ≡ [])
     pub nets : (c : ℕ) (f : Family) → nets n L c ≡ Some f → q.now c ≡ values c
 
   abbrev pub Idle : Queue → ℕ → Type 0
@@ -295,6 +319,12 @@ module _ (n : Network) (L : IsLawful n) where
     waits_now : (x : ℕ) → x ≡ p → q_run.mode x ≡ Waiting
     waits_now x f = subst (λ (y : ℕ). put q_done.mode p Waiting y ≡ Waiting) (sym f) (put-same q_done.mode p Waiting)
 
+    not_p : (x : ℕ) → kind (n.process x) ≢ AClocked → x ≢ p
+    not_p x kx f = kx (subst (λ (y : ℕ). kind (n.process y) ≡ AClocked) (sym f) k)
+
+    beyond_p : (x : ℕ) → n.count ≤ x → x ≢ p
+    beyond_p x le f = let w = within p (λ e. cc) in absurd (omega arith)
+
     run_clocked : Turned n run_turn_of (Rested values) Idle q p (Run p ∷ [])
     run_clocked = turned_cons n run_turn_of (Rested values) Idle q q_run p (Run p) [] (λ x. cc) (subst IsBlock (sym k) tt, d) refl
         (λ x h kx u. same_number x p
@@ -306,8 +336,8 @@ module _ (n : Network) (L : IsLawful n) where
           begun = λ x. same_number x p
               (λ f u. let m = waits_now x f in cc)
               (λ ne u. not_begun_less q q_done x (done_ch.mode x) (r.begun x) (sym (put-other q_done.mode p Waiting x ne) ∙ u));
-          spent = λ x kx. acts.waiting x (λ f. kx (subst (λ (y : ℕ). kind (n.process y) ≡ AClocked) (sym f) k)) ∙ r.spent x kx;
-          beyond = λ x le. acts.waiting x (λ f. let w = within p (λ e. cc) in absurd (omega arith)) ∙ r.beyond x le;
+          spent = λ x kx. (let ne = not_p x kx in (acts.waiting x ne ∙ (r.spent x kx).0, acts.later x ne ∙ (r.spent x kx).1));
+          beyond = λ x le. (let ne = beyond_p x le in (acts.waiting x ne ∙ (r.beyond x le).0, acts.later x ne ∙ (r.beyond x le).1));
           nets = λ c f net. acts.now c (off_family c f net) ∙ r.nets c f net;
         }) (λ kx u. let m = waits_now p refl in cc))
 

@@ -34,6 +34,8 @@ pub record Changed (n : Network) (q q' : Queue) (ws : List Write) : Type 0 where
   pub pending : q'.pending ≡ q.pending
   pub active : q'.active ≡ q.active
   pub waiting : q'.waiting ≡ q.waiting
+  pub time : q'.time ≡ q.time
+  pub later : q'.later ≡ q.later
   pub slots : q'.slots ≡ q.slots
 
 sensed : (process : Process) (old : Bit4) (w : Write) → listens process w.bit ≡ true → senses process old w ≡ true
@@ -155,8 +157,8 @@ module _ (n : Network) (q : Queue) (w : Write) where
   pub change_one : Changed n q (change n q w) (w ∷ [])
   unfolding write_all is_written
   change_one = elim change_is [
-    | inl h ↦ subst (λ (x : Queue). Changed n q x (w ∷ [])) (sym h.1) (record { now = unmoved_now h.0; mode = λ r. stays refl (λ m b l. refl); calm = λ r k c. refl; deaf = λ r k c. refl; pending = refl; active = refl; waiting = refl; slots = refl })
-    | inr h ↦ subst (λ (x : Queue). Changed n q x (w ∷ [])) (sym h) (record { now = λ b. refl; mode = moved_woke; calm = λ r k c. moved_calm r k (record { clock = unwritten (clock_net (n.process r)) c.clock; reset = λ e o. unwritten e.net (c.reset e o) }); deaf = λ r k c. moved_deaf r k (not_listened r c); pending = refl; active = refl; waiting = refl; slots = refl })
+    | inl h ↦ subst (λ (x : Queue). Changed n q x (w ∷ [])) (sym h.1) (record { now = unmoved_now h.0; mode = λ r. stays refl (λ m b l. refl); calm = λ r k c. refl; deaf = λ r k c. refl; pending = refl; active = refl; waiting = refl; time = refl; later = refl; slots = refl })
+    | inr h ↦ subst (λ (x : Queue). Changed n q x (w ∷ [])) (sym h) (record { now = λ b. refl; mode = moved_woke; calm = λ r k c. moved_calm r k (record { clock = unwritten (clock_net (n.process r)) c.clock; reset = λ e o. unwritten e.net (c.reset e o) }); deaf = λ r k c. moved_deaf r k (not_listened r c); pending = refl; active = refl; waiting = refl; time = refl; later = refl; slots = refl })
   ]
     where
       not_listened : (r : ℕ) → ((b : ℕ) → listens (n.process r) b ≡ true → is_written (w ∷ []) b ≡ false) → listens (n.process r) w.bit ≡ false
@@ -195,7 +197,7 @@ woke_on n q q' q'' r (wakes m d) (wakes m' d') = wakes m d'
 
 pub changes_all : (n : Network) (ws : List Write) (q : Queue) → Changed n q (changes n q ws) ws
 unfolding changes write_all is_written
-changes_all n [] q = record { now = λ b. refl; mode = λ r. stays refl (λ m b l. refl); calm = λ r k c. refl; deaf = λ r k c. refl; pending = refl; active = refl; waiting = refl; slots = refl }
+changes_all n [] q = record { now = λ b. refl; mode = λ r. stays refl (λ m b l. refl); calm = λ r k c. refl; deaf = λ r k c. refl; pending = refl; active = refl; waiting = refl; time = refl; later = refl; slots = refl }
 changes_all n (w ∷ ws) q =
     let one = change_one n q w in
     let rest = changes_all n ws (change n q w) in
@@ -213,6 +215,8 @@ changes_all n (w ∷ ws) q =
       pending = rest.pending ∙ one.pending;
       active = rest.active ∙ one.active;
       waiting = rest.waiting ∙ one.waiting;
+      time = rest.time ∙ one.time;
+      later = rest.later ∙ one.later;
       slots = rest.slots ∙ one.slots;
     }
   where

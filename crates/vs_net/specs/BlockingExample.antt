@@ -3,7 +3,7 @@ use Rattle.std.specs.Prelude.{◌≡◌, ℕ, zero, suc, Bool, false, List, [], 
 use Rattle.vs_four.specs.declared.Bit4.{Bit4}
 use Rattle.vs_four.specs.declared.Bit4.TheVariants.{Zero, One, X, Z}
 use Rattle.vs_four.specs.Tables.{not_bit}
-use Rattle.vs_net.specs.Network.{State, Process, Input, Clock, Assign, Clocked, Network}
+use Rattle.vs_net.specs.Network.{State, Process, Input, Clock, Assign, Clocked, Network, at_once}
 use Rattle.vs_net.specs.Queue.{Queue, Choice, Start, Run, Take, Activate, Next, start, slots_of, IsFirst, IsCompleted, ends}
 use Rattle.vs_net.specs.Solution.{IsSolution, beginning}
 use Rattle.vs_net.specs.Lawful.{IsLawful, IsLevelOrder}
@@ -15,8 +15,8 @@ use Rattle.vs_net.specs.Example.{one_write}
 -- Bits: 0 clk, 1 the input d, 2 t, 3 y, 4 q, 5 r. Processes: 0 the assign `y = ~t`, 1 a block `t = d; q <= ~t` and 2 a block `r <= q`, each at posedges of clk, 3 the clock, 4 the input d.
 abbrev pub blocking_process : ℕ → Process
 blocking_process zero = Assign (λ b. b == 2) (λ b. b == 3) (λ s. one_write 3 (not_bit (s 2)))
-blocking_process (suc zero) = Clocked 0 None (λ b. (b == 2) || (b == 4)) (λ s. record { writes = one_write 2 (s 1); updates = one_write 4 (not_bit (s 1)) ∷ [] })
-blocking_process (suc (suc zero)) = Clocked 0 None (λ b. b == 5) (λ s. record { writes = []; updates = one_write 5 (s 4) ∷ [] })
+blocking_process (suc zero) = Clocked 0 None (λ b. (b == 2) || (b == 4)) (λ s. record { writes = one_write 2 (s 1); updates = at_once (one_write 4 (not_bit (s 1)) ∷ []) })
+blocking_process (suc (suc zero)) = Clocked 0 None (λ b. b == 5) (λ s. record { writes = []; updates = at_once (one_write 5 (s 4) ∷ []) })
 blocking_process (suc (suc (suc zero))) = Clock 0
 blocking_process (suc (suc (suc (suc zero)))) = Input (1 ∷ [])
 blocking_process (suc (suc (suc (suc (suc p))))) = Input []
@@ -26,7 +26,7 @@ blocking_idle (suc (suc (suc zero))) = Z
 blocking_idle _ = X
 
 abbrev pub blocking_example : Network
-blocking_example = record { process = blocking_process; count = 5; idle = blocking_idle; initial = λ p. []; initial_updates = λ p. []; sleeper = λ p. None; selectors = λ p. [] }
+blocking_example = record { process = blocking_process; count = 5; idle = blocking_idle; initial = λ p. []; initial_updates = λ p. []; sleeper = λ p. None; selectors = λ p. []; delays = λ p. false }
 
 -- the values of clk, d, t, y, q and r
 abbrev pub blocking_bits : State → List Bit4
@@ -74,13 +74,13 @@ pub record BlockingRuns : Type 0 where
 -- A race. Bits: 0 clk, 1 the input d, 2 t, 3 q. Processes: 0 a block `t = d` and 1 a block `q <= t`, each at posedges of clk, 2 the clock, 3 the input d.
 abbrev pub race_process : ℕ → Process
 race_process zero = Clocked 0 None (λ b. b == 2) (λ s. record { writes = one_write 2 (s 1); updates = [] })
-race_process (suc zero) = Clocked 0 None (λ b. b == 3) (λ s. record { writes = []; updates = one_write 3 (s 2) ∷ [] })
+race_process (suc zero) = Clocked 0 None (λ b. b == 3) (λ s. record { writes = []; updates = at_once (one_write 3 (s 2) ∷ []) })
 race_process (suc (suc zero)) = Clock 0
 race_process (suc (suc (suc zero))) = Input (1 ∷ [])
 race_process (suc (suc (suc (suc p)))) = Input []
 
 abbrev pub race : Network
-race = record { process = race_process; count = 4; idle = λ b. X; initial = λ p. []; initial_updates = λ p. []; sleeper = λ p. None; selectors = λ p. [] }
+race = record { process = race_process; count = 4; idle = λ b. X; initial = λ p. []; initial_updates = λ p. []; sleeper = λ p. None; selectors = λ p. []; delays = λ p. false }
 
 -- one vector: d is 1
 abbrev pub race_start : Queue

@@ -4,7 +4,7 @@ use Rattle.std.specs.Prelude.{◌≡◌, ℕ, zero, suc, Bool, false, List, [], 
 use Rattle.vs_four.specs.declared.Bit4.{Bit4}
 use Rattle.vs_four.specs.declared.Bit4.TheVariants.{Zero, One, X, Z}
 use Rattle.vs_four.specs.Tables.{not_bit}
-use Rattle.vs_net.specs.Network.{State, Write, Process, Input, Clock, Assign, Comb, Clocked, Network}
+use Rattle.vs_net.specs.Network.{State, Write, Process, Input, Clock, Assign, Comb, Clocked, Network, at_once}
 use Rattle.vs_net.specs.Queue.{Queue, Choice, start, slots_of, IsFirst, IsCompleted, ends}
 use Rattle.vs_net.specs.Solution.{IsSolution, beginning}
 use Rattle.vs_net.specs.Lawful.{IsLevelOrder}
@@ -19,7 +19,7 @@ abbrev pub example_process : ℕ → Process
 example_process zero = Assign (λ b. b == 0) (λ b. b == 1) (λ s. one_write 1 (s 0))
 example_process (suc zero) = Comb (λ b. b == 2) (λ b. b == 3) (λ s. record { writes = one_write 3 (s 2); updates = [] })
 example_process (suc (suc zero)) = Comb (λ b. b == 4) (λ b. b == 5) (λ s. record { writes = one_write 5 (not_bit (s 4)); updates = [] })
-example_process (suc (suc (suc zero))) = Clocked 1 None (λ b. b == 4) (λ s. record { writes = []; updates = one_write 4 (s 3) ∷ [] })
+example_process (suc (suc (suc zero))) = Clocked 1 None (λ b. b == 4) (λ s. record { writes = []; updates = at_once (one_write 4 (s 3) ∷ []) })
 example_process (suc (suc (suc (suc zero)))) = Clock 0
 example_process (suc (suc (suc (suc (suc zero))))) = Input (2 ∷ [])
 example_process (suc (suc (suc (suc (suc (suc p)))))) = Input []
@@ -29,7 +29,7 @@ example_idle (suc zero) = Z
 example_idle _ = X
 
 abbrev pub example : Network
-example = record { process = example_process; count = 6; idle = example_idle; initial = λ p. []; initial_updates = λ p. []; sleeper = λ p. None; selectors = λ p. [] }
+example = record { process = example_process; count = 6; idle = example_idle; initial = λ p. []; initial_updates = λ p. []; sleeper = λ p. None; selectors = λ p. []; delays = λ p. false }
 
 -- the values of clk, its port's net, a, y, q and r
 abbrev pub six_bits : State → List Bit4

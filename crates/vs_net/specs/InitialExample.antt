@@ -1,10 +1,10 @@
 -- A small lawful network with initial values, and runs of it.
 -- Bits: 0 clk, 1 the input d, 2 q, 3 y, 4 r. Processes: 0 a block `y = q & d`, which wakes at time zero, 1 a block `q <= ~q; r <= q` at each posedge of clk, 2 the clock, 3 the input d. Initial processes write `q = 0` and `r <= 1`.
-use Rattle.std.specs.Prelude.{◌≡◌, ℕ, zero, suc, List, [], ◌∷◌, ◌++◌, ◌==◌, ◌||◌, map, None}
+use Rattle.std.specs.Prelude.{◌≡◌, ℕ, zero, suc, List, [], ◌∷◌, ◌++◌, ◌==◌, ◌||◌, map, None, false}
 use Rattle.vs_four.specs.declared.Bit4.{Bit4}
 use Rattle.vs_four.specs.declared.Bit4.TheVariants.{Zero, One, X}
 use Rattle.vs_four.specs.Tables.{not_bit, and_bit}
-use Rattle.vs_net.specs.Network.{State, Update, Process, Input, Clock, Comb, Clocked, Network}
+use Rattle.vs_net.specs.Network.{State, Update, Process, Input, Clock, Comb, Clocked, Network, at_once}
 use Rattle.vs_net.specs.Queue.{Queue, Choice, Start, Run, Take, Activate, Next, start, slots_of, IsFirst, IsCompleted, ends}
 use Rattle.vs_net.specs.Solution.{beginning, IsSolution}
 use Rattle.vs_net.specs.Lawful.{IsLawful, IsLevelOrder}
@@ -14,7 +14,7 @@ use Rattle.vs_net.specs.Example.{one_write}
 
 abbrev pub initial_process : ℕ → Process
 initial_process zero = Comb (λ b. (b == 1) || (b == 2)) (λ b. b == 3) (λ s. record { writes = one_write 3 (and_bit (s 2) (s 1)); updates = [] })
-initial_process (suc zero) = Clocked 0 None (λ b. (b == 2) || (b == 4)) (λ s. record { writes = []; updates = one_write 2 (not_bit (s 2)) ∷ one_write 4 (s 2) ∷ [] })
+initial_process (suc zero) = Clocked 0 None (λ b. (b == 2) || (b == 4)) (λ s. record { writes = []; updates = at_once (one_write 2 (not_bit (s 2)) ∷ one_write 4 (s 2) ∷ []) })
 initial_process (suc (suc zero)) = Clock 0
 initial_process (suc (suc (suc zero))) = Input (1 ∷ [])
 initial_process (suc (suc (suc (suc p)))) = Input []
@@ -28,7 +28,7 @@ late_writes (suc zero) = one_write 4 One ∷ []
 late_writes _ = []
 
 abbrev pub initial_example : Network
-initial_example = record { process = initial_process; count = 4; idle = λ b. X; initial = initial_writes; initial_updates = late_writes; sleeper = λ p. None; selectors = λ p. [] }
+initial_example = record { process = initial_process; count = 4; idle = λ b. X; initial = initial_writes; initial_updates = late_writes; sleeper = λ p. None; selectors = λ p. []; delays = λ p. false }
 
 -- the values of clk, d, q, y and r
 abbrev pub initial_bits : State → List Bit4

@@ -2,7 +2,7 @@
 use Rattle.std.specs.Prelude.{◌≡◌, ◌≢◌, ◌≤◌, ℕ, Bool, true, false, List, [], ◌∷◌, ◌⊎◌, ◌==◌, ◌+◌, if◌then◌else◌, Option, Some, None}
 use Rattle.std.specs.List.{list_any}
 use Rattle.vs_four.specs.declared.Bit4.{Bit4}
-use Rattle.vs_four.specs.declared.Bit4.TheVariants.{Zero, One, X, Z}
+use Rattle.vs_four.specs.declared.Bit4.TheVariants.{Zero, X, Z}
 use Rattle.vs_net.specs.Network.{Reset, to_value, reset_of, Sleeper, State, Write, write_all, is_written, flatten, Process, Input, Network, is_selector, AnInput, TheClock, AnAssign, AComb, AClocked, kind, writes, listens, clock_net, made, updates, effects, branch}
 pub use Rattle.vs_net.specs.Solution.{Settles, IsKnown, IsSure}
 use Rattle.vs_net.specs.Solution.{at_first, all_initial, beginning}

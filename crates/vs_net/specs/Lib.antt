@@ -15,3 +15,4 @@ pub mod BlockingExample
 pub mod InitialExample
 pub mod SelectExample
 pub mod ClocksExample
+pub mod DelaysExample

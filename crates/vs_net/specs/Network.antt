@@ -1,6 +1,6 @@
 -- A design as its event queue sees it: the values of its bits, and the processes that read and write them.
 -- Clauses are those of IEEE 1364-2005.
-use Rattle.std.specs.Prelude.{ℕ, Bool, true, false, List, [], ◌∷◌, ◌++◌, if◌then◌else◌, ◌==◌, ◌||◌, ◌&&◌, Option, Some, None}
+use Rattle.std.specs.Prelude.{ℕ, ◌+◌, Bool, true, false, List, [], ◌∷◌, ◌++◌, if◌then◌else◌, ◌==◌, ◌||◌, ◌&&◌, nat_le, Option, Some, None}
 use Rattle.std.specs.List.{list_any}
 use Rattle.vs_four.specs.declared.Bit4.{Bit4}
 use Rattle.vs_four.specs.declared.Bit4.TheVariants.{Zero, One, X, Z}
@@ -68,10 +68,49 @@ unfoldable pub flatten : List Update → List Write
 flatten [] = []
 flatten (u ∷ us) = u ++ flatten us
 
--- what a run of a block does, from its event control to the next: its blocking writes (9.2.1) and its nonblocking updates (9.2.2), each in the order of the statements
+-- an update that comes after so many units of time (9.2.2, 9.7.7): counted from the run that makes it, and in the queue from the beginning of the slot
+pub record Delayed : Type 0 where
+  pub delay : ℕ
+  pub update : Update
+
+-- those with this delay, in their order
+abbrev pub at_delay : ℕ → List Delayed → List Delayed
+at_delay t [] = []
+at_delay t (d ∷ ds) = if d.delay == t then d ∷ at_delay t ds else at_delay t ds
+
+-- and all others
+abbrev pub but_delay : ℕ → List Delayed → List Delayed
+but_delay t [] = []
+but_delay t (d ∷ ds) = if d.delay == t then but_delay t ds else d ∷ but_delay t ds
+
+-- each is so much later
+abbrev pub postponed : ℕ → List Delayed → List Delayed
+postponed t [] = []
+postponed t (d ∷ ds) = record { delay = t + d.delay; update = d.update } ∷ postponed t ds
+
+-- the update stands before all whose delay isn't smaller
+abbrev pub placed_by_delay : Delayed → List Delayed → List Delayed
+placed_by_delay d [] = d ∷ []
+placed_by_delay d (e ∷ es) = if nat_le d.delay e.delay then d ∷ e ∷ es else e ∷ placed_by_delay d es
+
+-- those of a smaller delay come first, and those of one delay in their order
+abbrev pub by_delay : List Delayed → List Delayed
+by_delay [] = []
+by_delay (d ∷ ds) = placed_by_delay d (by_delay ds)
+
+abbrev pub undelayed : List Delayed → List Update
+undelayed [] = []
+undelayed (d ∷ ds) = d.update ∷ undelayed ds
+
+-- updates as they come without a delay
+abbrev pub at_once : List Update → List Delayed
+at_once [] = []
+at_once (u ∷ us) = record { delay = 0; update = u } ∷ at_once us
+
+-- what a run of a block does, from its event control to the next: its blocking writes (9.2.1) and its nonblocking updates with their delays (9.2.2), each in the order of the statements
 pub record Effect : Type 0 where
   pub writes : List Write
-  pub updates : List Update
+  pub updates : List Delayed
 
 -- The second event of a clocked block, an asynchronous reset: the edge of a net, and what the solution needs of it, the bit of the data input that the net copies, and the blocking writes and the updates that the reset branch gives. The branch reads no signal, so they are fixed.
 pub record Reset : Type 0 where
@@ -117,6 +156,8 @@ pub record Network : Type 0 where
   pub sleeper : ℕ → Option Sleeper
   -- the bits on which a combinational block depends to assign its own, its selectors: where one of them has x or z it may leave some of its bits as they were. This too is for the solution alone
   pub selectors : ℕ → List ℕ
+  -- which clocked blocks may give updates with delays; this is for the bound on steps alone
+  pub delays : ℕ → Bool
 
 abbrev pub is_selector : Network → ℕ → ℕ → Bool
 is_selector n p b = list_any (λ c. b == c) (n.selectors p)
@@ -168,10 +209,14 @@ made (Clocked clock reset targets run) s = (run s).writes
 made _ s = []
 
 -- its nonblocking updates, on these values
+abbrev pub delayed : Process → State → List Delayed
+delayed (Comb waits targets run) s = (run s).updates
+delayed (Clocked clock reset targets run) s = (run s).updates
+delayed _ s = []
+
+-- in the order in which they are applied
 abbrev pub updates : Process → State → List Update
-updates (Comb waits targets run) s = (run s).updates
-updates (Clocked clock reset targets run) s = (run s).updates
-updates _ s = []
+updates process s = undelayed (by_delay (delayed process s))
 
 -- all that a run gives, in the order in which it takes effect: what it writes at once, and then its updates
 abbrev pub effects : Process → State → List Update

@@ -1,8 +1,8 @@
 -- The event queue: its states, its steps, and its runs (IEEE 1364-2005, 11.3 and 11.4).
-use Rattle.std.specs.Prelude.{◌≡◌, ◌≢◌, ℕ, Bool, true, List, [], ◌∷◌, ◌++◌, map, if◌then◌else◌, ◌&&◌, Option, Some, None, ◌⊎◌, unwrap_or, IsSome}
+use Rattle.std.specs.Prelude.{◌≡◌, ◌≢◌, ℕ, ◌≤◌, Bool, true, List, [], ◌∷◌, ◌++◌, map, if◌then◌else◌, ◌&&◌, Option, Some, None, ◌⊎◌, unwrap_or, IsSome}
 use Rattle.vs_four.specs.declared.Bit4.TheVariants.{Zero, One, X, Z}
 use Rattle.vs_four.specs.Tables.{same}
-use Rattle.vs_net.specs.Network.{State, Write, Update, put, Process, Input, Clock, Assign, Comb, Clocked, Network, Kind, AnAssign, AComb, AClocked, kind, writes, made, updates, senses}
+use Rattle.vs_net.specs.Network.{State, Write, Update, Delayed, at_delay, but_delay, postponed, undelayed, delayed, put, Process, Input, Clock, Assign, Comb, Clocked, Network, Kind, AnAssign, AComb, AClocked, kind, writes, made, senses}
 
 -- A block is unstarted until it runs to its first event control (9.9.2). A process that waits is sensitive to changes; one that is due has an evaluation event (11.2).
 pub data Mode : Type 0 where
@@ -24,6 +24,9 @@ pub record Queue : Type 0 where
   -- the updates of a writer, a clocked block or an input, in their order: active ones, and those in the nonblocking assign update region (11.3)
   pub active : ℕ → List Update
   pub waiting : ℕ → List Update
+  -- the time since the slot's beginning, and the updates of a writer that come at later times of the slot, each with its time, in the order in which they were made
+  pub time : ℕ
+  pub later : ℕ → List Delayed
   -- the slots to come; the number of the present one is the number of all less these and itself
   pub slots : List Slot
 
@@ -63,6 +66,8 @@ pub data Choice : Type 0 where
   Take : (p : ℕ) → Choice
   -- all waiting updates become active
   Activate : Choice
+  -- this time comes, and the updates of it wait
+  Advance : (time : ℕ) → Choice
   -- the next time slot begins
   Next : Choice
 
@@ -79,19 +84,34 @@ IsOpen n q (Apply p) = IsSome (q.pending p)
 IsOpen n q (Run p) = IsBlock (kind (n.process p)) × (q.mode p ≡ Due)
 IsOpen n q (Take p) = q.active p ≢ []
 IsOpen n q Activate = ⊥
+IsOpen n q (Advance time) = ⊥
 IsOpen n q Next = ⊥
 
 -- no step of one process is possible: there is no active event
 abbrev pub IsStill : Network → Queue → Type 0
 IsStill n q = (c : Choice) → ¬ IsOpen n q c
 
+-- nothing is left to do at this time
+abbrev pub IsIdle : Network → Queue → Type 0
+IsIdle n q = IsStill n q × ((p : ℕ) → q.waiting p ≡ [])
+
 -- nothing is left to do in this slot
 abbrev pub IsOver : Network → Queue → Type 0
-IsOver n q = IsStill n q × ((p : ℕ) → q.waiting p ≡ [])
+IsOver n q = IsStill n q × ((p : ℕ) → q.waiting p ≡ []) × ((p : ℕ) → q.later p ≡ [])
 
--- Updates become active only where there is one and no step of a process is possible; the next slot begins only where nothing is left in this one (11.3, 11.4).
+-- each of these updates comes at this time or after it
+abbrev pub IsNoSooner : ℕ → List Delayed → Type 0
+IsNoSooner time [] = Unit {0}
+IsNoSooner time (d ∷ ds) = (time ≤ d.delay) × IsNoSooner time ds
+
+-- the time is the least at which an update is to come
+abbrev pub IsSoonest : Queue → ℕ → Type 0
+IsSoonest q time = ((p : ℕ) × (at_delay time (q.later p) ≢ [])) × ((p : ℕ) → IsNoSooner time (q.later p))
+
+-- Updates become active only where there is one and no step of a process is possible; a later time comes only where nothing is left at this one, and the next slot begins only where nothing is left in this one (11.3, 11.4).
 abbrev pub IsPossible : Network → Queue → Choice → Type 0
 IsPossible n q Activate = IsStill n q × ((p : ℕ) × (q.waiting p ≢ []))
+IsPossible n q (Advance time) = IsIdle n q × IsSoonest q time
 IsPossible n q Next = IsOver n q × (q.slots ≢ [])
 IsPossible n q c = IsOpen n q c
 
@@ -121,11 +141,16 @@ evaluated n q p =
 abbrev pub applied : Network → Queue → ℕ → Queue
 applied n q p = changes n (record q { pending = put q.pending p None }) (unwrap_or (q.pending p) [])
 
--- The block runs whole, and then waits again. While it runs it isn't waiting, so its own writes don't wake it.
+-- The block runs whole, and then waits again. While it runs it isn't waiting, so its own writes don't wake it. Its updates without a delay wait, and the others come later.
 abbrev pub ran : Network → Queue → ℕ → Queue
 ran n q p =
     let done = changes n q (made (n.process p) q.now) in
-    record done { mode = put done.mode p Waiting; waiting = put done.waiting p (done.waiting p ++ updates (n.process p) q.now) }
+    let us = delayed (n.process p) q.now in
+    record done {
+      mode = put done.mode p Waiting;
+      waiting = put done.waiting p (done.waiting p ++ undelayed (at_delay 0 us));
+      later = put done.later p (done.later p ++ postponed done.time (but_delay 0 us));
+    }
 
 abbrev pub took : Network → Queue → ℕ → List Update → Queue
 took n q p [] = q
@@ -133,7 +158,7 @@ took n q p (u ∷ us) = changes n (record q { active = put q.active p us }) u
 
 abbrev pub begun : Network → Queue → List Slot → Queue
 begun n q [] = q
-begun n q (slot ∷ slots) = record q { waiting = λ p. drive (n.process p) slot; slots = slots }
+begun n q (slot ∷ slots) = record q { waiting = λ p. drive (n.process p) slot; time = 0; slots = slots }
 
 -- the queue after a step
 abbrev pub after : Network → Queue → Choice → Queue
@@ -143,6 +168,7 @@ after n q (Apply p) = applied n q p
 after n q (Run p) = ran n q p
 after n q (Take p) = took n q p (q.active p)
 after n q Activate = record q { active = q.waiting; waiting = λ p. [] }
+after n q (Advance time) = record q { waiting = λ p. undelayed (at_delay time (q.later p)); time = time; later = λ p. but_delay time (q.later p) }
 after n q Next = begun n q q.slots
 
 -- a completed run: each step is possible, and then nothing is left in the last slot
@@ -177,6 +203,8 @@ start n first v vs =
       pending = λ p. None;
       active = n.initial;
       waiting = λ p. n.initial_updates p ++ drive (n.process p) (Fall v);
+      time = 0;
+      later = λ p. [];
       slots = Rise ∷ slots_of vs;
     }
 

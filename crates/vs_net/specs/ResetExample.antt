@@ -4,7 +4,7 @@ use Rattle.std.specs.Prelude.{◌≡◌, ℕ, zero, suc, Bool, false, List, [], 
 use Rattle.vs_four.specs.declared.Bit4.{Bit4}
 use Rattle.vs_four.specs.declared.Bit4.TheVariants.{Zero, One, X, Z}
 use Rattle.vs_four.specs.Tables.{not_bit, and_bit, same}
-use Rattle.vs_net.specs.Network.{State, Posedge, Reset, Sleeper, Process, Input, Clock, Assign, Comb, Clocked, Network}
+use Rattle.vs_net.specs.Network.{State, Posedge, Reset, Sleeper, Process, Input, Clock, Assign, Comb, Clocked, Network, at_once}
 use Rattle.vs_net.specs.Queue.{Queue, Choice, start, slots_of, IsFirst, IsCompleted, ends}
 use Rattle.vs_net.specs.Solution.{IsSolution, beginning}
 use Rattle.vs_net.specs.Lawful.{IsLevelOrder}
@@ -22,7 +22,7 @@ next_t s = if same (s 2) One then Zero else not_bit (s 3)
 
 abbrev pub reset_process : ℕ → Process
 reset_process zero = Assign (λ b. b == 1) (λ b. b == 2) (λ s. one_write 2 (s 1))
-reset_process (suc zero) = Clocked 0 (Some reset_of_t) (λ b. b == 3) (λ s. record { writes = []; updates = one_write 3 (next_t s) ∷ [] })
+reset_process (suc zero) = Clocked 0 (Some reset_of_t) (λ b. b == 3) (λ s. record { writes = []; updates = at_once (one_write 3 (next_t s) ∷ []) })
 reset_process (suc (suc zero)) = Comb (λ b. b == 3) (λ b. b == 4) (λ s. record { writes = one_write 4 (and_bit (s 3) Zero); updates = [] })
 reset_process (suc (suc (suc zero))) = Clock 0
 reset_process (suc (suc (suc (suc zero)))) = Input (1 ∷ [])
@@ -37,7 +37,7 @@ reset_sleeper (suc (suc zero)) = Some (record { on = 3 ∷ []; bits = 4 ∷ [] }
 reset_sleeper _ = None
 
 abbrev pub reset_example : Network
-reset_example = record { process = reset_process; count = 5; idle = reset_idle; initial = λ p. []; initial_updates = λ p. []; sleeper = reset_sleeper; selectors = λ p. [] }
+reset_example = record { process = reset_process; count = 5; idle = reset_idle; initial = λ p. []; initial_updates = λ p. []; sleeper = reset_sleeper; selectors = λ p. []; delays = λ p. false }
 
 -- the values of clk, the reset input, its port's net, t and z
 abbrev pub five_bits : State → List Bit4

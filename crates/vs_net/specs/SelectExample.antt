@@ -1,6 +1,6 @@
 -- A small lawful network with a block that assigns its bit only where its selector is known, and runs of it.
 -- Bits: 0 clk, 1 the input s, 2 and 3 the bits a and b of an input, 4 t, 5 y. Processes: 0 the assign `t = ~s`, 1 a block `case (t) 0: y = a; 1: y = b; endcase`, which wakes at time zero, 2 the clock, 3 the input s, 4 the input of a and b.
-use Rattle.std.specs.Prelude.{◌≡◌, ℕ, zero, suc, List, [], ◌∷◌, ◌++◌, ◌==◌, ◌||◌, if◌then◌else◌, map, None}
+use Rattle.std.specs.Prelude.{◌≡◌, ℕ, zero, suc, List, [], ◌∷◌, ◌++◌, ◌==◌, ◌||◌, if◌then◌else◌, map, None, false}
 use Rattle.vs_four.specs.declared.Bit4.{Bit4}
 use Rattle.vs_four.specs.declared.Bit4.TheVariants.{Zero, One, X, Z}
 use Rattle.vs_four.specs.Tables.{not_bit}
@@ -32,7 +32,7 @@ select_idle (suc (suc (suc (suc zero)))) = Z
 select_idle _ = X
 
 abbrev pub select_example : Network
-select_example = record { process = select_process; count = 5; idle = select_idle; initial = λ p. []; initial_updates = λ p. []; sleeper = λ p. None; selectors = λ p. if p == 1 then (4 ∷ []) else [] }
+select_example = record { process = select_process; count = 5; idle = select_idle; initial = λ p. []; initial_updates = λ p. []; sleeper = λ p. None; selectors = λ p. if p == 1 then (4 ∷ []) else []; delays = λ p. false }
 
 -- the values of clk, s, a, b, t and y
 abbrev pub select_bits : State → List Bit4

@@ -3,8 +3,8 @@
 use Rattle.std.specs.Prelude.{◌≡◌, ◌≢◌, ℕ, Bool, true, false, List, [], ◌∷◌, ◌++◌, map, Some, None, ◌↔◌, ◌⊎◌, IsSome}
 use Rattle.vs_four.specs.declared.Bit4.{Bit4}
 use Rattle.vs_four.specs.declared.Bit4.TheVariants.{Zero, One, X, Z}
-use Rattle.vs_net.specs.Network.{posedge, negedge, is_edge, Reset, State, Write, Update, put, write_all, flatten, Process, Input, Clock, Assign, Comb, Clocked, Network, AnInput, TheClock, AnAssign, kind, listens, made, updates}
-use Rattle.vs_net.specs.Queue.{Unstarted, Waiting, Due, Slot, Queue, change, changes, Choice, Evaluate, Apply, Run, Take, Activate, Next, IsBlock, IsPossible, drive, after, start}
+use Rattle.vs_net.specs.Network.{posedge, negedge, is_edge, Reset, State, Write, Update, at_delay, but_delay, postponed, undelayed, delayed, put, write_all, flatten, Process, Input, Clock, Assign, Comb, Clocked, Network, AnInput, TheClock, AnAssign, kind, listens, made}
+use Rattle.vs_net.specs.Queue.{Unstarted, Waiting, Due, Slot, Queue, change, changes, Choice, Evaluate, Apply, Run, Take, Activate, Advance, Next, IsBlock, IsSoonest, IsPossible, drive, after, start}
 use Rattle.vs_net.specs.Solution.{IsWriter}
 use Rattle.vs_net.specs.Lawful.{IsLawful}
 use Rattle.vs_net.specs.LevelRun.{after_all}
@@ -110,17 +110,21 @@ IsAlone n q c = (d : Choice) → d ≢ c → ¬ IsPossible n q d
 
 -- The regions of the queue and its slots (11.3, 11.4).
 pub record RegionRule (n : Network) (q : Queue) : Type 0 where
-  -- waiting updates become active exactly where there is one and no other step is possible, and a slot begins exactly where there is one to come and no other step is possible
+  -- waiting updates become active exactly where there is one and no other step is possible; a later time comes exactly where it is the least of an update to come and no other step is possible; and a slot begins exactly where there is one to come and no other step is possible
   pub activate : IsPossible n q Activate ↔ (((p : ℕ) × (q.waiting p ≢ [])) × IsAlone n q Activate)
+  pub advance : (time : ℕ) → IsPossible n q (Advance time) ↔ (IsSoonest q time × IsAlone n q (Advance time))
   pub next : IsPossible n q Next ↔ ((q.slots ≢ []) × IsAlone n q Next)
   -- then no update is lost: all that wait become active in their order
   pub activated : IsPossible n q Activate → (p : ℕ) → (q.active p ≡ []) × ((after n q Activate).active p ≡ q.waiting p) × ((after n q Activate).waiting p ≡ [])
-  pub begun : IsPossible n q Next → (slot : Slot) (slots : List Slot) → q.slots ≡ slot ∷ slots → ((after n q Next).slots ≡ slots) × ((p : ℕ) → (q.active p ≡ []) × (q.waiting p ≡ []) × ((after n q Next).waiting p ≡ drive (n.process p) slot))
+  -- those of the time that comes wait in their order, and all others are still to come
+  pub advanced : (time : ℕ) → IsPossible n q (Advance time) → (p : ℕ) → (q.active p ≡ []) × (q.waiting p ≡ []) × ((after n q (Advance time)).waiting p ≡ undelayed (at_delay time (q.later p))) × ((after n q (Advance time)).later p ≡ but_delay time (q.later p))
+  pub begun : IsPossible n q Next → (slot : Slot) (slots : List Slot) → q.slots ≡ slot ∷ slots → ((after n q Next).slots ≡ slots) × ((p : ℕ) → (q.active p ≡ []) × (q.waiting p ≡ []) × (q.later p ≡ []) × ((after n q Next).waiting p ≡ drive (n.process p) slot))
 
 -- The updates of one writer keep their order (11.4.1).
 pub record UpdateRule (n : Network) (q : Queue) (p : ℕ) : Type 0 where
-  -- a run adds its updates behind those that wait
-  pub added : (after n q (Run p)).waiting p ≡ q.waiting p ++ updates (n.process p) q.now
+  -- a run adds its updates without a delay behind those that wait, and the others behind those that come later, each so much after the present time
+  pub added : (after n q (Run p)).waiting p ≡ q.waiting p ++ undelayed (at_delay 0 (delayed (n.process p) q.now))
+  pub behind : (after n q (Run p)).later p ≡ q.later p ++ postponed q.time (but_delay 0 (delayed (n.process p) q.now))
   -- the first active one is applied, and the others stay as they are
   pub first : (u : Update) (us : List Update) → q.active p ≡ u ∷ us → ((after n q (Take p)).active p ≡ us) × ((b : ℕ) → (after n q (Take p)).now b ≡ write_all q.now u b)
   -- no other step but the activation changes the active ones
@@ -139,6 +143,7 @@ pub record HasItsParts (n : Network) (q : Queue) (p : ℕ) : Type 0 where
   pub pending : IsSome (q.pending p) → kind (n.process p) ≡ AnAssign
   pub active : q.active p ≢ [] → IsWriter (kind (n.process p))
   pub waiting : q.waiting p ≢ [] → IsWriter (kind (n.process p))
+  pub later : q.later p ≢ [] → IsWriter (kind (n.process p))
 
 -- at each moment of each run of a lawful network
 abbrev pub EachHasItsParts : Type 0

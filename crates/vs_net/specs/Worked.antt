@@ -1,11 +1,11 @@
 -- A small network and two runs of it, with values that were worked by hand.
 -- The net y is a & b by an assign, and a register q takes y at each posedge of clk.
 -- Bits: 0 clk, 1 a, 2 b, 3 y, 4 q. Processes: 0 the assign, 1 the clocked block, 2 the clock, 3 the input a, 4 the input b.
-use Rattle.std.specs.Prelude.{◌≡◌, ℕ, zero, suc, List, [], ◌∷◌, ◌++◌, ◌==◌, ◌||◌, map, None}
+use Rattle.std.specs.Prelude.{◌≡◌, ℕ, zero, suc, List, [], ◌∷◌, ◌++◌, ◌==◌, ◌||◌, map, None, false}
 use Rattle.vs_four.specs.declared.Bit4.{Bit4}
 use Rattle.vs_four.specs.declared.Bit4.TheVariants.{Zero, One, X, Z}
 use Rattle.vs_four.specs.Tables.{and_bit}
-use Rattle.vs_net.specs.Network.{State, Write, Process, Input, Clock, Assign, Clocked, Network}
+use Rattle.vs_net.specs.Network.{State, Write, Process, Input, Clock, Assign, Clocked, Network, at_once}
 use Rattle.vs_net.specs.Queue.{Queue, Choice, Start, Evaluate, Apply, Run, Take, Activate, Next, after, start, IsFirst, IsCompleted, ends}
 
 abbrev pub to_bit : ℕ → Bit4 → List Write
@@ -13,7 +13,7 @@ to_bit b v = record { bit = b; value = v } ∷ []
 
 abbrev pub worked_process : ℕ → Process
 worked_process zero = Assign (λ b. (b == 1) || (b == 2)) (λ b. b == 3) (λ s. to_bit 3 (and_bit (s 1) (s 2)))
-worked_process (suc zero) = Clocked 0 None (λ b. b == 4) (λ s. record { writes = []; updates = to_bit 4 (s 3) ∷ [] })
+worked_process (suc zero) = Clocked 0 None (λ b. b == 4) (λ s. record { writes = []; updates = at_once (to_bit 4 (s 3) ∷ []) })
 worked_process (suc (suc zero)) = Clock 0
 worked_process (suc (suc (suc zero))) = Input (1 ∷ [])
 worked_process (suc (suc (suc (suc zero)))) = Input (2 ∷ [])
@@ -25,7 +25,7 @@ worked_idle (suc (suc (suc zero))) = Z
 worked_idle _ = X
 
 abbrev pub worked : Network
-worked = record { process = worked_process; count = 5; idle = worked_idle; initial = λ p. []; initial_updates = λ p. []; sleeper = λ p. None; selectors = λ p. [] }
+worked = record { process = worked_process; count = 5; idle = worked_idle; initial = λ p. []; initial_updates = λ p. []; sleeper = λ p. None; selectors = λ p. []; delays = λ p. false }
 
 -- a vector: the values of a and b
 abbrev pub vector_of : Bit4 → Bit4 → State

@@ -6,6 +6,7 @@
 ghost use Rattle.vs_net.specs.BlockingExample.{BlockingRuns, RaceRuns};
 ghost use Rattle.vs_net.specs.Checked.{TestedRunsComplete};
 ghost use Rattle.vs_net.specs.ClocksExample.{ClocksRun};
+ghost use Rattle.vs_net.specs.DelaysExample.{DelaysRun};
 ghost use Rattle.vs_net.specs.Example.{ExampleIsBounded, ExampleRuns, example};
 ghost use Rattle.vs_net.specs.InitialExample.{InitialRuns};
 ghost use Rattle.vs_net.specs.ResetExample.{ResetIsBounded, ResetRuns, reset_example};
@@ -112,6 +113,11 @@ pub fn select_example_law()
 /// A network with two clocks in step is lawful, and has a completed run that ends its slots with values that were worked by hand.
 pub fn clocks_example_law()
     ensures { ClocksRun }
+{}
+
+/// A network with updates that come after delays is lawful, and has completed runs in two orders that end its slots with values that were worked by hand: those of the updates that come last, which aren't the last in the text.
+pub fn delays_example_law()
+    ensures { DelaysRun }
 {}
 
 /// Of the sixteen changes of a bit exactly five are posedges: 0 to 1, 0 to x, 0 to z, x to 1 and z to 1 (9.7.2).

@@ -9,7 +9,7 @@ use Rattle.vs_net.specs.Solution.{all_x, blank, reset_effects}
 use Rattle.vs_design.specs.Designs as D
 use Rattle.vs_design.specs.Footprints.{contains, writes_of}
 use Rattle.vs_design.specs.Sizes.{distinct, process_weight}
-use Rattle.vs_design.specs.Bodies.{assignment_writes, body}
+use Rattle.vs_design.specs.Bodies.{assignment_writes, body, updates_in}
 use Rattle.vs_code.specs.Calls.{Call, State, IsCall, AreCalled, length_of, slots_of}
 
 -- how the slots of a lane are shared out
@@ -50,7 +50,7 @@ made_of (D.Always place star events statement) s = (body statement s).writes
 -- its nonblocking updates (9.2.2), by its text alone
 abbrev pub updates_of : D.Process → N.State → List N.Update
 updates_of (D.Continuous place port target_place target e) s = []
-updates_of (D.Always place star events statement) s = (body statement s).updates
+updates_of (D.Always place star events statement) s = updates_in (body statement s)
 
 -- all that a run of it gives, by its text alone: what it writes at once, and then its updates
 abbrev pub effects_of : D.Process → N.State → List N.Update

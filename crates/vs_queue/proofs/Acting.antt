@@ -1,11 +1,11 @@
 -- The processes that take steps, and what the steps write.
-use Rattle.std.proofs.Common.{◌≡◌, ℕ, zero, suc, ◌+◌, ◌<◌, ◌≤◌, Bool, true, false, not, ◌&&◌, ◌==◌, if◌then◌else◌, List, [], ◌∷◌, ◌||◌, set, length, get_or, eqb-true, eq-eqb, refl, ap, ◌∙◌, subst, arith, Some}
+use Rattle.std.proofs.Common.{◌≡◌, ℕ, zero, suc, ◌<◌, ◌≤◌, Bool, true, false, not, ◌&&◌, ◌==◌, if◌then◌else◌, List, [], ◌∷◌, ◌||◌, set, length, get_or, eqb-true, eq-eqb, refl, ap, ◌∙◌, subst, arith, Some}
 use Rattle.std.specs.Prelude.{slice_get, nat_lt, is_some}
 use mathlib.Core.Path.{fun_ext}
 use Rattle.std.proofs.lemmas.Bool.{and_parts, ltb-true}
 use Rattle.vs_four.specs.declared.Bit4.{Bit4}
 use Rattle.vs_four.specs.Tables.{same}
-use Rattle.vs_net.specs.Network.{State, Write, Network, kind, put, is_written, write_all, made, updates}
+use Rattle.vs_net.specs.Network.{State, Write, Network, kind, put, is_written, write_all, made, delayed}
 use Rattle.vs_net.specs.Queue.{Choice, Start, Evaluate, Apply, Run, Take}
 use Rattle.vs_net.specs.LevelRun.{is_empty}
 use Rattle.vs_net.specs.Checked.{is_assign, is_block, is_due, is_unstarted, is_possible}
@@ -63,8 +63,8 @@ found_below (y ∷ ys) zero x h = omega arith
 found_below (y ∷ ys) (suc k) x h = let l = found_below ys k x h in omega (arith, l)
 
 -- a block past the processes of the design does nothing
-pub past_idle : (d : Design) (clocks : List ℕ) (p : ℕ) (s : State) → length d.processes ≤ p → is_block (kind ((network_of d clocks).process p)) ≡ true → (made ((network_of d clocks).process p) s ≡ []) × (updates ((network_of d clocks).process p) s ≡ [])
-past_idle d clocks p s = by_kind d clocks (λ p x. length d.processes ≤ p → is_block (kind x) ≡ true → (made x s ≡ []) × (updates x s ≡ [])) (record {
+pub past_idle : (d : Design) (clocks : List ℕ) (p : ℕ) (s : State) → length d.processes ≤ p → is_block (kind ((network_of d clocks).process p)) ≡ true → (made ((network_of d clocks).process p) s ≡ []) × (delayed ((network_of d clocks).process p) s ≡ [])
+past_idle d clocks p s = by_kind d clocks (λ p x. length d.processes ≤ p → is_block (kind x) ≡ true → (made x s ≡ []) × (delayed x s ≡ [])) (record {
   assigns = λ p place port target_place target e at m h. cc;
   combs = λ p place star events st at k m h. absurd (let b = found_below d.processes p (Always place star events st) at in omega (arith, b, m));
   clocked = λ p place star events st at k m h. absurd (let b = found_below d.processes p (Always place star events st) at in omega (arith, b, m));
@@ -79,20 +79,20 @@ module _ (d : Design) (clocks : List ℕ) (e : Events) (sound : IsSound (network
   abbrev n : Network
   n = network_of d clocks
 
-  here : (c : Choice) (i : ℕ) → slice_get (steps_of e) i ≡ Some c → is_possible n (queue_of e []) c ≡ true
-  here c i at = all_at (is_possible n (queue_of e [])) (open_steps n (queue_of e [])) i c (open_good n (queue_of e [])) (subst (λ cs. slice_get cs i ≡ Some c) (steps_are_possible n e [] sound) at)
+  here : (c : Choice) (i : ℕ) → slice_get (steps_of e) i ≡ Some c → is_possible n (queue_of e 0 []) c ≡ true
+  here c i at = all_at (is_possible n (queue_of e 0 [])) (open_steps n (queue_of e 0 [])) i c (open_good n (queue_of e 0 [])) (subst (λ cs. slice_get cs i ≡ Some c) (steps_are_possible n e 0 [] sound) at)
 
   made_of : (p : ℕ) (assign : Bool) → IsFound d p assign → IsProcess d clocks p assign
   made_of p assign f = record { process = f.0; at = f.1; kind_is = f.2; is = process_there d clocks p f.0 f.1 }
 
   pub evaluates : (p i : ℕ) → slice_get (steps_of e) i ≡ Some (Evaluate p) → IsProcess d clocks p true
   evaluates p i at =
-      let parts = and_parts (nat_lt p n.count && is_assign (kind (n.process p))) (is_due ((queue_of e []).mode p)) (here (Evaluate p) i at) in
+      let parts = and_parts (nat_lt p n.count && is_assign (kind (n.process p))) (is_due ((queue_of e 0 []).mode p)) (here (Evaluate p) i at) in
       made_of p true (assign_found d clocks p (and_parts (nat_lt p n.count) (is_assign (kind (n.process p))) parts.0).1)
 
   pub is_running : (p i : ℕ) → slice_get (steps_of e) i ≡ Some (Run p) → is_block (kind (n.process p)) ≡ true
   is_running p i at =
-      let parts = and_parts (nat_lt p n.count && is_block (kind (n.process p))) (is_due ((queue_of e []).mode p)) (here (Run p) i at) in
+      let parts = and_parts (nat_lt p n.count && is_block (kind (n.process p))) (is_due ((queue_of e 0 []).mode p)) (here (Run p) i at) in
       (and_parts (nat_lt p n.count) (is_block (kind (n.process p))) parts.0).1
 
   pub runs : (p i : ℕ) → p < length d.processes → slice_get (steps_of e) i ≡ Some (Run p) → IsProcess d clocks p false
@@ -103,11 +103,11 @@ module _ (d : Design) (clocks : List ℕ) (e : Events) (sound : IsSound (network
 
   -- the process that takes a possible step is one of the lists'
   pub step_below : (i : ℕ) (s : Step) → slice_get (steps_of e) i ≡ Some (choice_of s) → step_process s < length e.assigns
-  step_below i (S.Start p) at = there p (and_parts (nat_lt p n.count) (is_unstarted ((queue_of e []).mode p)) (here (Start p) i at)).0
-  step_below i (S.Evaluate p) at = there p (and_parts (nat_lt p n.count) (is_assign (kind (n.process p))) (and_parts (nat_lt p n.count && is_assign (kind (n.process p))) (is_due ((queue_of e []).mode p)) (here (Evaluate p) i at)).0).0
-  step_below i (S.Apply p) at = there p (and_parts (nat_lt p n.count) (is_some ((queue_of e []).pending p)) (here (Apply p) i at)).0
-  step_below i (S.Run p) at = there p (and_parts (nat_lt p n.count) (is_block (kind (n.process p))) (and_parts (nat_lt p n.count && is_block (kind (n.process p))) (is_due ((queue_of e []).mode p)) (here (Run p) i at)).0).0
-  step_below i (S.Take p) at = there p (and_parts (nat_lt p n.count) (not (is_empty ((queue_of e []).active p))) (here (Take p) i at)).0
+  step_below i (S.Start p) at = there p (and_parts (nat_lt p n.count) (is_unstarted ((queue_of e 0 []).mode p)) (here (Start p) i at)).0
+  step_below i (S.Evaluate p) at = there p (and_parts (nat_lt p n.count) (is_assign (kind (n.process p))) (and_parts (nat_lt p n.count && is_assign (kind (n.process p))) (is_due ((queue_of e 0 []).mode p)) (here (Evaluate p) i at)).0).0
+  step_below i (S.Apply p) at = there p (and_parts (nat_lt p n.count) (is_some ((queue_of e 0 []).pending p)) (here (Apply p) i at)).0
+  step_below i (S.Run p) at = there p (and_parts (nat_lt p n.count) (is_block (kind (n.process p))) (and_parts (nat_lt p n.count && is_block (kind (n.process p))) (is_due ((queue_of e 0 []).mode p)) (here (Run p) i at)).0).0
+  step_below i (S.Take p) at = there p (and_parts (nat_lt p n.count) (not (is_empty ((queue_of e 0 []).active p))) (here (Take p) i at)).0
 
 -- ---- the values after writes
 

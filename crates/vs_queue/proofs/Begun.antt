@@ -66,6 +66,7 @@ beginning_is_sound n roles values count kinds =
             active = same _ (length-replicate (length roles) []);
             waiting = same _ (length-replicate (length roles) []);
             lates = same _ (length-replicate (length roles) false);
+            laters = refl;
           };
       count = long ∙ count;
       kinds = kind_at;
@@ -106,6 +107,7 @@ drives_keep n e p u sound inside =
             active = held.active;
             waiting = length-set e.waiting p (get_or e.waiting p [] ++ u ∷ []) ∙ held.waiting;
             lates = length-set e.lates p true ∙ held.lates;
+            laters = held.laters;
           };
       count = sound.count;
       kinds = sound.kinds;

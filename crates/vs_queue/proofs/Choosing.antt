@@ -1,15 +1,19 @@
 -- The run that a number chooses is one, and it passes the test of a completed run.
-use Rattle.std.proofs.Common.{◌≡◌, ℕ, zero, suc, ◌≤◌, ◌%◌, Bool, true, false, not, ◌&&◌, ◌||◌, ◌==◌, if◌then◌else◌, cond, List, [], ◌∷◌, ◌++◌, map, filter, length, refl, sym, ap, ap₂, ◌∙◌, subst, arith, Some, None}
-use Rattle.std.specs.Prelude.{slice_get, is_some, nat_lt}
+use Rattle.std.proofs.Common.{◌≡◌, ℕ, zero, suc, ◌≤◌, ◌%◌, Bool, true, false, not, ◌&&◌, ◌||◌, ◌==◌, ◌≢◌, ◌<◌, ◌⊎◌, inl, inr, if◌then◌else◌, cond, List, [], ◌∷◌, ◌++◌, map, filter, length, refl, sym, ap, ap₂, ◌∙◌, subst, arith, Some, None}
+use Rattle.std.specs.Prelude.{slice_get, is_some, nat_lt, nat_le, Option}
 use Rattle.std.specs.List.{list_all, list_any}
+use Rattle.std.proofs.lemmas.Bool.{cond-true, cond-false, le-leb}
 use Rattle.std.proofs.lemmas.List.Folds.{list_all-append}
 use Rattle.vs_four.specs.declared.Bit4.{Bit4}
 use Rattle.vs_four.specs.Tables.{same}
-use Rattle.vs_net.specs.Network.{Write, put, Process, Input, Clock, Assign, Comb, Clocked, Network, Kind, AnInput, TheClock, AnAssign, AComb, AClocked, kind, made, senses}
-use Rattle.vs_net.specs.Queue.{Mode, Unstarted, Waiting, Due, Slot, Queue, Choice, Start, Evaluate, Apply, Run, Take, Activate, Next, after, took, begun, change, changes, woken, start, first_mode}
-use Rattle.vs_net.specs.LevelRun.{below, is_empty}
-use Rattle.vs_net.specs.Checked.{is_unstarted, is_waiting, is_due, is_assign, is_block, is_last, holds_below, is_quiet_at, is_over_at, is_possible, is_completed, TestedRunsComplete}
-use Rattle.vs_queue.specs.Chosen.{next_seed, drawn, passing, may_start, may_evaluate, may_apply, may_run, may_take, open_steps, or_else, activation, beginning, possible_steps, IsChosen}
+use Rattle.vs_net.specs.Network.{Write, Delayed, at_delay, put, Process, Input, Clock, Assign, Comb, Clocked, Network, Kind, AnInput, TheClock, AnAssign, AComb, AClocked, kind, made, senses}
+use Rattle.vs_net.specs.Queue.{Mode, Unstarted, Waiting, Due, Slot, Queue, Choice, Start, Evaluate, Apply, Run, Take, Activate, Advance, Next, IsNoSooner, after, took, begun, change, changes, woken, start, first_mode}
+use Rattle.vs_net.specs.LevelRun.{below, is_empty, sooner_of, least_time, next_time}
+use Rattle.vs_net.specs.Checked.{is_unstarted, is_waiting, is_due, is_assign, is_block, is_last, holds_below, is_quiet_at, is_idle_at, is_over_at, is_none, is_no_sooner, is_possible, is_completed, TestedRunsComplete}
+use Rattle.vs_net.proofs.Basics.{by_test, same_number}
+use Rattle.vs_net.proofs.Delays.{own_time, behind}
+use Rattle.vs_net.proofs.Soonest.{next_none, next_some}
+use Rattle.vs_queue.specs.Chosen.{next_seed, drawn, passing, may_start, may_evaluate, may_apply, may_run, may_take, open_steps, or_else, activation, advance_to, advance, beginning, possible_steps, IsChosen}
 use Rattle.vs_queue.specs.Laws.{OneIsChosen, ChosenIsCompleted}
 
 -- ---- lists
@@ -110,6 +114,7 @@ after_waits n q (Apply p) h r k = changes_wait n _ (record q { pending = put q.p
 after_waits n q (Run p) h r k = put_waits (changes n q (made (n.process p) q.now)).mode p r (changes_wait n (made (n.process p) q.now) q r k (h r k))
 after_waits n q (Take p) h r k = took_waits n q p r (q.active p) k (h r k)
 after_waits n q Activate h r k = h r k
+after_waits n q (Advance time) h r k = h r k
 after_waits n q Next h r k = begun_waits n q r q.slots (h r k)
 
 pub first_waits : (k : Kind) → (is_assign k || is_block k) ≡ false → first_mode k ≡ Waiting
@@ -210,6 +215,53 @@ open_good n q =
     and_three : (a b c : Bool) → a ≡ true → (b && c) ≡ true → (a && b && c) ≡ true
     and_three a b c h k = let p = and_both b c k in and_true (a && b) c (and_true a b h p.0) p.1
 
+-- ---- the next time
+
+least_of : (least : Option ℕ) (ds : List Delayed) (time : ℕ) → least_time least ds ≡ Some time → (least ≡ Some time) ⊎ (at_delay time ds ≢ [])
+least_of least [] time h = inl h
+least_of least (d ∷ ds) time h = by_rest (λ t e. least_of least ds t e) (least_time least ds) refl (some_same (sooner_of d.delay (least_time least ds)) time h)
+  where
+    own : d.delay ≡ time → (least ≡ Some time) ⊎ (at_delay time (d ∷ ds) ≢ [])
+    own e = inr (subst (λ (t : ℕ). at_delay t (d ∷ ds) ≢ []) e (own_time d ds))
+
+    rest : (t : ℕ) → t ≡ time → (least ≡ Some t) ⊎ (at_delay t ds ≢ []) → (least ≡ Some time) ⊎ (at_delay time (d ∷ ds) ≢ [])
+    rest t e (inl h) = inl (h ∙ ap Some e)
+    rest t e (inr h) = inr (behind time d ds (subst (λ (x : ℕ). at_delay x ds ≢ []) e h))
+
+    by_rest : ((t : ℕ) → least_time least ds ≡ Some t → (least ≡ Some t) ⊎ (at_delay t ds ≢ [])) → (o : Option ℕ) → least_time least ds ≡ o → sooner_of d.delay (least_time least ds) ≡ time → (least ≡ Some time) ⊎ (at_delay time (d ∷ ds) ≢ [])
+    by_rest rec None e f = own (sym (ap (sooner_of d.delay) e) ∙ f)
+    by_rest rec (Some t) e f = by_test (nat_le d.delay t)
+        (λ b. own (sym (ap (sooner_of d.delay) e ∙ cond-true (nat_le d.delay t) d.delay t b) ∙ f))
+        (λ b. rest t (sym (ap (sooner_of d.delay) e ∙ cond-false (nat_le d.delay t) d.delay t b) ∙ f) (rec t e))
+
+-- an update of one of the processes comes then
+next_one : (k : ℕ) (q : Queue) (time : ℕ) → next_time k q ≡ Some time → (p : ℕ) × (p < k) × (at_delay time (q.later p) ≢ [])
+next_one zero q time h = absurd (let z : ⊥ = cc in z)
+next_one (suc k) q time h = elim (least_of (next_time k q) (q.later k) time h) [
+  | inl e ↦ let r = next_one k q time e in let l = r.1 in (r.0, omega (arith, l), r.2)
+  | inr g ↦ (k, omega arith, g)
+]
+
+filled : (ds : List Delayed) → ds ≢ [] → is_none ds ≡ false
+filled [] h = absurd (h refl)
+filled (d ∷ ds) h = refl
+
+no_sooner : (time : ℕ) (ds : List Delayed) → IsNoSooner time ds → is_no_sooner time ds ≡ true
+no_sooner time [] h = refl
+no_sooner time (d ∷ ds) h = and_true (nat_le time d.delay) (is_no_sooner time ds) (le-leb time d.delay h.0) (no_sooner time ds h.1)
+
+not_all : (k : ℕ) (f : ℕ → Bool) (p : ℕ) → p < k → f p ≡ false → holds_below k f ≡ false
+not_all zero f p l h = absurd (omega (arith, l))
+not_all (suc k) f p l h = same_number p k (λ e. off (holds_below k f) (f k) (ap f (sym e) ∙ h)) (λ ne. ap (λ b. b && f k) (not_all k f p (omega (arith, l, ne)) h))
+  where
+    off : (a b : Bool) → b ≡ false → (a && b) ≡ false
+    off true b h = h
+    off false b h = refl
+
+all_below : (k : ℕ) (f : ℕ → Bool) → ((p : ℕ) → p < k → f p ≡ true) → holds_below k f ≡ true
+all_below zero f h = refl
+all_below (suc k) f h = and_true (holds_below k f) (f k) (all_below k f (λ p l. h p (omega (arith, l)))) (h k (omega arith))
+
 any_not : (f : ℕ → Bool) (ps : List ℕ) (b : Bool) → list_any (λ p. not (f p)) ps ≡ b → list_all f ps ≡ not b
 any_not f [] b h = ap not h
 any_not f (p ∷ ps) b h = go (f p) h (λ k. any_not f ps b k)
@@ -222,27 +274,46 @@ module _ (n : Network) (q : Queue) (wait : InputsWait n q) where
   quiet_waits : (b : Bool) → list_any (λ p. not (is_empty (q.waiting p))) (below n.count) ≡ b → holds_below n.count (λ p. is_empty (q.waiting p)) ≡ not b
   quiet_waits b h = holds_all n.count (λ p. is_empty (q.waiting p)) ∙ any_not (λ p. is_empty (q.waiting p)) (below n.count) b h
 
-  over_all : (k : ℕ) → holds_below k (is_quiet_at q) ≡ true → holds_below k (λ p. is_empty (q.waiting p)) ≡ true → holds_below k (is_over_at q) ≡ true
-  over_all zero h e = refl
-  over_all (suc k) h e =
+  idle_all : (k : ℕ) → holds_below k (is_quiet_at q) ≡ true → holds_below k (λ p. is_empty (q.waiting p)) ≡ true → holds_below k (is_idle_at q) ≡ true
+  idle_all zero h e = refl
+  idle_all (suc k) h e =
       let a = and_both (holds_below k (is_quiet_at q)) (is_quiet_at q k) h in
       let b = and_both (holds_below k (λ p. is_empty (q.waiting p))) (is_empty (q.waiting k)) e in
-      and_true (holds_below k (is_over_at q)) (is_over_at q k) (over_all k a.0 b.0) (and_true (is_quiet_at q k) (is_empty (q.waiting k)) a.1 b.1)
+      and_true (holds_below k (is_idle_at q)) (is_idle_at q k) (idle_all k a.0 b.0) (and_true (is_quiet_at q k) (is_empty (q.waiting k)) a.1 b.1)
+
+  -- where nothing comes later the slot is over
+  over_all : (k : ℕ) → holds_below k (is_idle_at q) ≡ true → ((p : ℕ) → p < k → q.later p ≡ []) → holds_below k (is_over_at q) ≡ true
+  over_all zero h none = refl
+  over_all (suc k) h none =
+      let a = and_both (holds_below k (is_idle_at q)) (is_idle_at q k) h in
+      and_true (holds_below k (is_over_at q)) (is_over_at q k) (over_all k a.0 (λ p l. none p (omega (arith, l)))) (and_true (is_idle_at q k) (is_none (q.later k)) a.1 (ap is_none (none k (omega arith))))
 
   next_good : (slots : List Slot) → q.slots ≡ slots → holds_below n.count (is_over_at q) ≡ true → list_all (is_possible n q) (beginning slots) ≡ true
   next_good [] e h = refl
   next_good (s ∷ ss) e h = and_true (holds_below n.count (is_over_at q) && not (is_last q.slots)) true (and_true (holds_below n.count (is_over_at q)) (not (is_last q.slots)) h (ap (λ x. not (is_last x)) e)) refl
 
-  last_good : (b : Bool) → list_any (λ p. not (is_empty (q.waiting p))) (below n.count) ≡ b → holds_below n.count (is_quiet_at q) ≡ true → list_all (is_possible n q) (or_else (if b then (Activate ∷ []) else []) (beginning q.slots)) ≡ true
+  -- the next time is possible
+  later_good : (o : Option ℕ) → next_time n.count q ≡ o → holds_below n.count (is_idle_at q) ≡ true → list_all (is_possible n q) (or_else (advance_to o) (beginning q.slots)) ≡ true
+  later_good None e h = next_good q.slots refl (over_all n.count h (λ p l. next_none n.count q e p l))
+  later_good (Some time) e h =
+      let some = next_one n.count q time e in
+      let here = holds_below n.count (is_idle_at q) in
+      let one = not (holds_below n.count (λ p. is_none (at_delay time (q.later p)))) in
+      let sooner = holds_below n.count (λ p. is_no_sooner time (q.later p)) in
+      and_true ((here && one) && sooner) true
+      (and_true (here && one) sooner (and_true here one h (ap not (not_all n.count (λ p. is_none (at_delay time (q.later p))) some.0 some.1 (filled (at_delay time (q.later some.0)) some.2))))
+      (all_below n.count (λ p. is_no_sooner time (q.later p)) (λ p l. no_sooner time (q.later p) ((next_some n.count q time e).1 p l)))) refl
+
+  last_good : (b : Bool) → list_any (λ p. not (is_empty (q.waiting p))) (below n.count) ≡ b → holds_below n.count (is_quiet_at q) ≡ true → list_all (is_possible n q) (or_else (if b then (Activate ∷ []) else []) (or_else (advance n q) (beginning q.slots))) ≡ true
   last_good true e h =
       and_true (holds_below n.count (is_quiet_at q) && not (holds_below n.count (λ p. is_empty (q.waiting p)))) true
       (and_true (holds_below n.count (is_quiet_at q)) (not (holds_below n.count (λ p. is_empty (q.waiting p)))) h (ap not (quiet_waits true e))) refl
-  last_good false e h = next_good q.slots refl (over_all n.count h (quiet_waits false e))
+  last_good false e h = later_good (next_time n.count q) refl (idle_all n.count h (quiet_waits false e))
 
   pub possible_good : list_all (is_possible n q) (possible_steps n q) ≡ true
   possible_good = go (open_steps n q) refl
     where
-      go : (cs : List Choice) → open_steps n q ≡ cs → list_all (is_possible n q) (or_else cs (or_else (activation n q) (beginning q.slots))) ≡ true
+      go : (cs : List Choice) → open_steps n q ≡ cs → list_all (is_possible n q) (or_else cs (or_else (activation n q) (or_else (advance n q) (beginning q.slots)))) ≡ true
       go [] e = last_good (list_any (λ p. not (is_empty (q.waiting p))) (below n.count)) refl (still n q wait e)
       go (c ∷ cs) e = ap (list_all (is_possible n q)) (sym e) ∙ open_good n q
 
@@ -258,12 +329,18 @@ module _ (n : Network) (q : Queue) (wait : InputsWait n q) where
   none_begins [] h = refl
   none_begins (s ∷ ss) h = cc
 
+  none_later : (o : Option ℕ) → advance_to o ≡ [] → o ≡ None
+  none_later None h = refl
+  none_later (Some time) h = cc
+
   pub over : possible_steps n q ≡ [] → (holds_below n.count (is_over_at q) && is_last q.slots) ≡ true
   over h =
-      let a = else_none (open_steps n q) (or_else (activation n q) (beginning q.slots)) h in
-      let b = else_none (activation n q) (beginning q.slots) a.1 in
+      let a = else_none (open_steps n q) (or_else (activation n q) (or_else (advance n q) (beginning q.slots))) h in
+      let b = else_none (activation n q) (or_else (advance n q) (beginning q.slots)) a.1 in
+      let c = else_none (advance n q) (beginning q.slots) b.1 in
       let none = none_waits (list_any (λ p. not (is_empty (q.waiting p))) (below n.count)) b.0 in
-      and_true (holds_below n.count (is_over_at q)) (is_last q.slots) (over_all n.count (still n q wait a.0) (quiet_waits false none)) (none_begins q.slots b.1)
+      let last = none_later (next_time n.count q) c.0 in
+      and_true (holds_below n.count (is_over_at q)) (is_last q.slots) (over_all n.count (idle_all n.count (still n q wait a.0) (quiet_waits false none)) (λ p l. next_none n.count q last p l)) (none_begins q.slots c.1)
 
 chosen_tested : (n : Network) (q : Queue) (seed : ℕ) (cs : List Choice) → InputsWait n q → IsChosen n q seed cs → is_completed n q cs ≡ true
 chosen_tested n q seed [] wait h = over n q wait h

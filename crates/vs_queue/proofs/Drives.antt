@@ -10,7 +10,7 @@ use Rattle.vs_net.specs.Network.{State, Write, Update, is_written, flatten}
 use Rattle.vs_net.specs.Network as N
 use Rattle.vs_net.specs.Queue.{Slot, Fall, Rise, drive}
 use Rattle.vs_net.proofs.Basics.{none_written, flat_cons}
-use Rattle.vs_design.specs.Clocks.{spare_clock, clock_bits}
+use Rattle.vs_design.specs.Clocks.{clock_bits}
 use Rattle.vs_design.specs.Accepted.{IsAcceptedDesign}
 use Rattle.vs_design.specs.Footprints.{contains}
 use Rattle.vs_design.specs.Expressions.{Signal, signal_length}
@@ -24,7 +24,7 @@ use Rattle.vs_events.specs.Beginning.{Drive, after_drives, drives_of, AreDriven}
 use Rattle.vs_events.proofs.Woken.{not_same}
 use Rattle.vs_queue.specs.Driven.{each_drive, clock_drives, drives_from, spare_drives, slot_drives}
 use Rattle.vs_queue.specs.Initially.{AllDriven}
-use Rattle.vs_queue.specs.Spare.{spare_count, value_count, keeper_count}
+use Rattle.vs_queue.specs.Spare.{spare_count, value_count}
 use Rattle.vs_queue.specs.Given.{given}
 use Rattle.vs_queue.specs.Running.{IsInside, IsRunning}
 use Rattle.vs_queue.specs.Sound.{DrivesKeep}
@@ -290,12 +290,13 @@ spare_small d names a = let long = spare_length d (clock_bits a.clocks) in go (c
 
 -- ---- the lists run on
 
-drive_inside : (count : ℕ) (e : Events) (p : ℕ) (u : Update) → p < length e.waiting → AreInside count u → IsInside count e → IsInside count (after_drive e p u)
+pub drive_inside : (count : ℕ) (e : Events) (p : ℕ) (u : Update) → p < length e.waiting → AreInside count u → IsInside count e → IsInside count (after_drive e p u)
 drive_inside count e p u l h i = record {
   values = i.values;
   pending = i.pending;
   active = i.active;
   waiting = λ r. go r (r == p) refl;
+  laters = i.laters;
 }
   where
     more : List Update

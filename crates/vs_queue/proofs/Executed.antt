@@ -5,7 +5,7 @@ use Rattle.vs_flat.specs.Arena.{Arena}
 use Rattle.vs_flat.specs.DesignOf.{design_of}
 use Rattle.std.specs.List.{list_all}
 use Rattle.vs_four.specs.declared.Bit4.{Bit4}
-use Rattle.vs_net.specs.Network.{State, Write, Update, Network, is_written, flatten, made, updates, write_all}
+use Rattle.vs_net.specs.Network.{State, Write, Update, Network, is_written, Delayed, flatten, made, delayed, write_all}
 use Rattle.vs_net.proofs.Basics.{flat_cons, is_written-append}
 use Rattle.vs_design.specs.Designs as D
 use Rattle.vs_design.specs.Designs.{Design, top_inputs}
@@ -57,8 +57,8 @@ module _ (d : Design) (c : Clocked) (b : IsAcceptedBy d c) where
     pub update_is : (p : ℕ) (assign : Bool) (x : IsProcess d c.bits p assign) (ws : List Write) (s : State) → ws ≡ made (process_of d c.bits x.process) s → ws ≡ made (n.process p) s
     update_is p assign x ws s h = h ∙ ap (λ y. made y s) (sym x.is)
 
-    pub updates_are : (p : ℕ) (assign : Bool) (x : IsProcess d c.bits p assign) (us : List Update) (s : State) → us ≡ updates (process_of d c.bits x.process) s → us ≡ updates (n.process p) s
-    updates_are p assign x us s h = h ∙ ap (λ y. updates y s) (sym x.is)
+    pub updates_are : (p : ℕ) (assign : Bool) (x : IsProcess d c.bits p assign) (us : List Delayed) (s : State) → us ≡ delayed (process_of d c.bits x.process) s → us ≡ delayed (n.process p) s
+    updates_are p assign x us s h = h ∙ ap (λ y. delayed y s) (sym x.is)
 
     -- the first active update is inside
     pub first_inside : (p : ℕ) → AreInside (value_count d c.bits) (first_update (get_or e.active p []))
@@ -83,7 +83,7 @@ unfolding write_all
 taken_state e table p [] h = refl
 taken_state e table p (u ∷ us) h = all_state u _ table h
 
-pub ran_state : (e : Events) (table : List (List Listener)) (p : ℕ) (ws : List Write) (us : List Update) → ((k : ℕ) → is_written ws k ≡ true → k < length e.values) → state_of (after_run e table p ws us).values ≡ write_all (state_of e.values) ws
+pub ran_state : (e : Events) (table : List (List Listener)) (p : ℕ) (ws : List Write) (us : List Delayed) → ((k : ℕ) → is_written ws k ≡ true → k < length e.values) → state_of (after_run e table p ws us).values ≡ write_all (state_of e.values) ws
 ran_state e table p ws us h = all_state ws e table h
 
 pub evaluated_state : (e : Events) (p : ℕ) (o : Option (List Write)) → state_of (after_evaluate e p o).values ≡ state_of e.values
@@ -103,12 +103,12 @@ told_update a z same vals now is p ws h clocks x =
     (λ g. g clocks x.process x.at x.kind_is) h
     ∙ ap₂ (λ y v. made y (state_of v)) (sym x.is) is
 
-pub told_effect : (a z : Arena) → z ≡ a → (vals now : State) → vals ≡ now → (p : ℕ) (ws : List Write) (us : List Update)
-    → ((clocks : List ℕ) (x : D.Process) → slice_get (design_of z).processes p ≡ Some x → D.is_assign x ≡ false → (ws ≡ made (process_of (design_of z) clocks x) vals) × (us ≡ updates (process_of (design_of z) clocks x) vals))
-    → (clocks : List ℕ) → IsProcess (design_of a) clocks p false → (ws ≡ made ((network_of (design_of a) clocks).process p) now) × (us ≡ updates ((network_of (design_of a) clocks).process p) now)
+pub told_effect : (a z : Arena) → z ≡ a → (vals now : State) → vals ≡ now → (p : ℕ) (ws : List Write) (us : List Delayed)
+    → ((clocks : List ℕ) (x : D.Process) → slice_get (design_of z).processes p ≡ Some x → D.is_assign x ≡ false → (ws ≡ made (process_of (design_of z) clocks x) vals) × (us ≡ delayed (process_of (design_of z) clocks x) vals))
+    → (clocks : List ℕ) → IsProcess (design_of a) clocks p false → (ws ≡ made ((network_of (design_of a) clocks).process p) now) × (us ≡ delayed ((network_of (design_of a) clocks).process p) now)
 told_effect a z same vals now is p ws us h clocks x =
-    let both = subst (λ (y : Arena). ((clocks : List ℕ) (x : D.Process) → slice_get (design_of y).processes p ≡ Some x → D.is_assign x ≡ false → (ws ≡ made (process_of (design_of y) clocks x) vals) × (us ≡ updates (process_of (design_of y) clocks x) vals)) → (ws ≡ made (process_of (design_of a) clocks x.process) vals) × (us ≡ updates (process_of (design_of a) clocks x.process) vals)) (sym same) (λ g. g clocks x.process x.at x.kind_is) h in
-    (both.0 ∙ ap₂ made (sym x.is) is, both.1 ∙ ap₂ updates (sym x.is) is)
+    let both = subst (λ (y : Arena). ((clocks : List ℕ) (x : D.Process) → slice_get (design_of y).processes p ≡ Some x → D.is_assign x ≡ false → (ws ≡ made (process_of (design_of y) clocks x) vals) × (us ≡ delayed (process_of (design_of y) clocks x) vals)) → (ws ≡ made (process_of (design_of a) clocks x.process) vals) × (us ≡ delayed (process_of (design_of a) clocks x.process) vals)) (sym same) (λ g. g clocks x.process x.at x.kind_is) h in
+    (both.0 ∙ ap₂ made (sym x.is) is, both.1 ∙ ap₂ delayed (sym x.is) is)
 
 pub told_state : (a z : Arena) → z ≡ a → (vals now : State) → vals ≡ now → (p : ℕ) (next : State)
     → ((clocks : List ℕ) (x : D.Process) → slice_get (design_of z).processes p ≡ Some x → D.is_assign x ≡ false → next ≡ write_all vals (made (process_of (design_of z) clocks x) vals))

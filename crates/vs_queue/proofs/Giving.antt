@@ -1,14 +1,14 @@
 -- What initial processes write, driven in parts.
-use Rattle.std.proofs.Common.{◌≡◌, ℕ, zero, suc, ◌+◌, ◌-◌, ◌<◌, Bool, true, false, not, ◌&&◌, ◌||◌, ◌==◌, cond, if◌then◌else◌, List, [], ◌∷◌, ◌++◌, map, filter, take, drop, length, get_or, append-nil, append_assoc, eq-eqb, refl, sym, ap, ap₂, ◌∙◌, subst, arith, Option, Some}
+use Rattle.std.proofs.Common.{◌≡◌, ℕ, zero, suc, ◌+◌, ◌-◌, ◌<◌, Bool, true, false, not, ◌&&◌, ◌||◌, ◌==◌, cond, if◌then◌else◌, List, [], ◌∷◌, ◌++◌, map, filter, take, drop, length, get_or, append-nil, append_assoc, eq-eqb, refl, sym, ap, ap₂, ◌∙◌, subst, arith, Some}
 use Rattle.std.specs.Prelude.{slice_get, Result, Ok, Err, IfOk}
 use Rattle.std.specs.List.{flat_map, list_all, list_any, All}
 use Rattle.std.proofs.lemmas.Bool.{eqb-true}
 use Rattle.std.proofs.lemmas.List.{drop_more, length-drop, take_all}
 use Rattle.vs_four.specs.declared.Bit4.TheVariants.{X}
-use Rattle.vs_net.specs.Network.{State, Write, Update, Effect, is_written, flatten}
+use Rattle.vs_net.specs.Network.{State, Write, Update, Delayed, Effect, undelayed, is_written, flatten}
 use Rattle.vs_design.specs.Expressions.{Signal}
 use Rattle.vs_design.specs.Statements.{Statement}
-use Rattle.vs_design.specs.Bodies.{body}
+use Rattle.vs_design.specs.Bodies.{body, updates_in}
 use Rattle.vs_design.specs.Designs.{Initial, Design, bit_count}
 use Rattle.vs_design.specs.Footprints.{contains, signals_bits, statement_signals, statement_bits}
 use Rattle.vs_design.specs.Elaborated.{is_formed_statement, is_formed_initial}
@@ -23,6 +23,8 @@ use Rattle.vs_design.proofs.Blocks.{body_reads}
 use Rattle.vs_design.proofs.Named.{statement_named}
 use Rattle.vs_design.proofs.Parts.{all_at, none_at}
 use Rattle.vs_design.proofs.Starts.{same_order, firsts_are, firsts_own, updates_own, none_gives_all}
+use Rattle.vs_design.specs.DelayLaws.{PromptInOrder}
+use Rattle.vs_design.specs.Delays.{has_delays}
 use Rattle.vs_writes.proofs.Writing.{drop_at}
 use Rattle.vs_events.specs.Held.{Events, after_drive, after_activate}
 use Rattle.vs_events.specs.Beginning.{Drive, after_drives, drives_of}
@@ -227,6 +229,12 @@ update_written (v ∷ us) (suc k) u l b h = flat_right v us b (update_written us
 pub each_update : (P : ℕ → Type 0) (us : List Update) → ((b : ℕ) → is_written (flatten us) b ≡ true → P b) → All (All (λ w. P w.bit)) us
 each_update P us h k u l = each_write P (get_or us k u) (λ b e. h b (update_written us k u l b e))
 
+-- an update without its delay
+pub undelayed_at : (ds : List Delayed) (k : ℕ) (d : Delayed) → get_or (undelayed ds) k d.update ≡ (get_or ds k d).update
+undelayed_at [] k d = refl
+undelayed_at (x ∷ ds) zero d = refl
+undelayed_at (x ∷ ds) (suc k) d = undelayed_at ds k d
+
 pub all_drop : {A : Type 0} (P : A → Type 0) (xs : List A) (k : ℕ) → All P xs → All P (drop k xs)
 all_drop P xs zero h = h
 all_drop P [] (suc k) h = h
@@ -322,11 +330,16 @@ not_of : (o : Bool) → not o ≡ false → o ≡ true
 not_of true h = refl
 not_of false h = cc
 
-pub initial_body : (d : Design) (names : List (List ℕ)) (a : IsAcceptedDesign d names) (k : ℕ) (i : Initial) → slice_get d.initials k ≡ Some i → (s : State) → ((body i.statement s).writes ≡ initial_writes i) × ((body i.statement s).updates ≡ initial_updates i)
-initial_body d names a k i at s =
+or_neither : (a b : Bool) → (a || b) ≡ false → (a ≡ false) × (b ≡ false)
+or_neither true b h = cc
+or_neither false b h = (refl, h)
+
+pub initial_body : PromptInOrder → (d : Design) (names : List (List ℕ)) (a : IsAcceptedDesign d names) (k : ℕ) (i : Initial) → slice_get d.initials k ≡ Some i → (s : State) → ((body i.statement s).writes ≡ initial_writes i) × (undelayed (body i.statement s).updates ≡ initial_updates i)
+initial_body order d names a k i at s =
     let formed = all_at (is_formed_initial d) d.initials k i a.lawful.initials at in
-    let fixed = not_of (is_fixed i.statement) (none_at has_other_start d.initials k i a.initial_form at) in
+    let clear = or_neither (not (is_fixed i.statement)) (has_delays i.statement) (none_at has_other_start d.initials k i a.initial_form at) in
+    let fixed = not_of (is_fixed i.statement) clear.0 in
     let same = fixed_body d i.statement s (λ b. X) formed fixed in (
       ap (λ (x : Effect). x.writes) same,
-      ap (λ (x : Effect). x.updates) same,
+      sym (order i.statement s clear.1) ∙ ap updates_in same,
     )

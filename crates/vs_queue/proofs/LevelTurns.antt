@@ -75,14 +75,14 @@ AreLeft n p q now = after_all n now (take_turn now p) ≡ after_all n q (take_tu
 
 -- ---- starts
 
-module _ (e : Events) (slots : List Slot) (p : ℕ) where
+module _ (e : Events) (time : ℕ) (slots : List Slot) (p : ℕ) where
   abbrev busy : Bool
   busy = has_member e.evaluates p || has_member e.runs p
 
-  pub start_is : has_member e.unstarted p ≡ true → Start p ∷ [] ≡ start_turn (queue_of e slots) p
+  pub start_is : has_member e.unstarted p ≡ true → Start p ∷ [] ≡ start_turn (queue_of e time slots) p
   start_is h = sym (ap (λ u. starting (mode_of u busy) p) h)
 
-  pub start_not : has_member e.unstarted p ≡ false → start_turn (queue_of e slots) p ≡ []
+  pub start_not : has_member e.unstarted p ≡ false → start_turn (queue_of e time slots) p ≡ []
   start_not h = ap (λ u. starting (mode_of u busy) p) h ∙ go busy
     where
       go : (b : Bool) → starting (mode_of false b) p ≡ []
@@ -100,8 +100,8 @@ module _ (n : Network) (e : Events) (sound : IsSound n e) (p : ℕ) where
       go true k = absurd (both_ways (has_member e.evaluates p || has_member e.runs p) (sound.unstarted p k) h)
       go false k = refl
 
-  is_due : (slots : List Slot) → (has_member e.evaluates p || has_member e.runs p) ≡ true → (queue_of e slots).mode p ≡ Due
-  is_due slots h = ap₂ mode_of (due_started h) h
+  is_due : (time : ℕ) (slots : List Slot) → (has_member e.evaluates p || has_member e.runs p) ≡ true → (queue_of e time slots).mode p ≡ Due
+  is_due time slots h = ap₂ mode_of (due_started h) h
 
   is_not : (m : Mode) → (b : Bool) → b ≡ false → (u : Bool) → m ≡ mode_of u b → (m ≡ Due) → ⊥
   is_not m true h u k d = absurd (let z : ⊥ = cc in z)
@@ -122,23 +122,23 @@ module _ (n : Network) (e : Events) (sound : IsSound n e) (p : ℕ) where
   abbrev pub held : Bool
   held = is_held (state_of e.values) (made (n.process p) (state_of e.values))
 
-  evaluate_is : (slots : List Slot) → has_member e.evaluates p ≡ true → settle_turn n (queue_of e slots) p ≡ Evaluate p ∷ (if held then [] else Apply p ∷ [])
-  evaluate_is slots h =
-      ap₂ (λ m k. settling m k held p) (is_due slots (or_left (has_member e.evaluates p) (has_member e.runs p) h)) (assign_kind (kind (n.process p)) (sound.evaluates p h))
+  evaluate_is : (time : ℕ) (slots : List Slot) → has_member e.evaluates p ≡ true → settle_turn n (queue_of e time slots) p ≡ Evaluate p ∷ (if held then [] else Apply p ∷ [])
+  evaluate_is time slots h =
+      ap₂ (λ m k. settling m k held p) (is_due time slots (or_left (has_member e.evaluates p) (has_member e.runs p) h)) (assign_kind (kind (n.process p)) (sound.evaluates p h))
 
   -- where the assign has nothing to write, and where it has
-  pub held_is : (slots : List Slot) → has_member e.evaluates p ≡ true → held ≡ true → Evaluate p ∷ [] ≡ settle_turn n (queue_of e slots) p
-  held_is slots h k = sym (evaluate_is slots h ∙ ap (λ b. Evaluate p ∷ (if b then [] else Apply p ∷ [])) k)
+  pub held_is : (time : ℕ) (slots : List Slot) → has_member e.evaluates p ≡ true → held ≡ true → Evaluate p ∷ [] ≡ settle_turn n (queue_of e time slots) p
+  held_is time slots h k = sym (evaluate_is time slots h ∙ ap (λ b. Evaluate p ∷ (if b then [] else Apply p ∷ [])) k)
 
-  pub written_is : (slots : List Slot) → has_member e.evaluates p ≡ true → held ≡ false → Evaluate p ∷ Apply p ∷ [] ≡ settle_turn n (queue_of e slots) p
-  written_is slots h k = sym (evaluate_is slots h ∙ ap (λ b. Evaluate p ∷ (if b then [] else Apply p ∷ [])) k)
+  pub written_is : (time : ℕ) (slots : List Slot) → has_member e.evaluates p ≡ true → held ≡ false → Evaluate p ∷ Apply p ∷ [] ≡ settle_turn n (queue_of e time slots) p
+  written_is time slots h k = sym (evaluate_is time slots h ∙ ap (λ b. Evaluate p ∷ (if b then [] else Apply p ∷ [])) k)
 
   -- what is pending after the evaluation tells which
-  pending_is : (now : Events) → queue_of now [] ≡ after n (queue_of e []) (Evaluate p) → has_member now.applies p ≡ not held
+  pending_is : (now : Events) → queue_of now 0 [] ≡ after n (queue_of e 0 []) (Evaluate p) → has_member now.applies p ≡ not held
   pending_is now is =
       sym (some (has_member now.applies p) (get_or now.pending p []))
       ∙ ap (λ (q : Queue). is_some (q.pending p)) is
-      ∙ ap (λ (o : Option (List Write)). is_some o) (put-same (queue_of e []).pending p (to_write (state_of e.values) (made (n.process p) (state_of e.values))))
+      ∙ ap (λ (o : Option (List Write)). is_some o) (put-same (queue_of e 0 []).pending p (to_write (state_of e.values) (made (n.process p) (state_of e.values))))
       ∙ kept held (made (n.process p) (state_of e.values))
     where
       some : (b : Bool) (x : List Write) → is_some (if b then Some x else None) ≡ b
@@ -149,28 +149,28 @@ module _ (n : Network) (e : Events) (sound : IsSound n e) (p : ℕ) where
       kept true x = refl
       kept false x = refl
 
-  pub applied_is : (now : Events) → queue_of now [] ≡ after n (queue_of e []) (Evaluate p) → has_member now.applies p ≡ true → held ≡ false
+  pub applied_is : (now : Events) → queue_of now 0 [] ≡ after n (queue_of e 0 []) (Evaluate p) → has_member now.applies p ≡ true → held ≡ false
   applied_is now is h = turned held (sym (pending_is now is) ∙ h)
     where
       turned : (b : Bool) → not b ≡ true → b ≡ false
       turned true k = cc
       turned false k = refl
 
-  pub unapplied_is : (now : Events) → queue_of now [] ≡ after n (queue_of e []) (Evaluate p) → has_member now.applies p ≡ false → held ≡ true
+  pub unapplied_is : (now : Events) → queue_of now 0 [] ≡ after n (queue_of e 0 []) (Evaluate p) → has_member now.applies p ≡ false → held ≡ true
   unapplied_is now is h = turned held (sym (pending_is now is) ∙ h)
     where
       turned : (b : Bool) → not b ≡ false → b ≡ true
       turned true k = refl
       turned false k = cc
 
-  pub comb_is : (slots : List Slot) → Settles (kind (n.process p)) → has_member e.runs p ≡ true → Run p ∷ [] ≡ settle_turn n (queue_of e slots) p
-  comb_is slots s h = sym (ap₂ (λ m k. settling m k held p) (is_due slots (or_right (has_member e.evaluates p) (has_member e.runs p) h)) (comb_kind (kind (n.process p)) (sound.runs p h) s))
+  pub comb_is : (time : ℕ) (slots : List Slot) → Settles (kind (n.process p)) → has_member e.runs p ≡ true → Run p ∷ [] ≡ settle_turn n (queue_of e time slots) p
+  comb_is time slots s h = sym (ap₂ (λ m k. settling m k held p) (is_due time slots (or_right (has_member e.evaluates p) (has_member e.runs p) h)) (comb_kind (kind (n.process p)) (sound.runs p h) s))
 
-  not_due : (slots : List Slot) → has_member e.evaluates p ≡ false → has_member e.runs p ≡ false → (queue_of e slots).mode p ≡ mode_of (has_member e.unstarted p) false
-  not_due slots h k = ap (mode_of (has_member e.unstarted p)) (or_none (has_member e.evaluates p) (has_member e.runs p) h k)
+  not_due : (time : ℕ) (slots : List Slot) → has_member e.evaluates p ≡ false → has_member e.runs p ≡ false → (queue_of e time slots).mode p ≡ mode_of (has_member e.unstarted p) false
+  not_due time slots h k = ap (mode_of (has_member e.unstarted p)) (or_none (has_member e.evaluates p) (has_member e.runs p) h k)
 
-  pub settle_not : (slots : List Slot) → has_member e.evaluates p ≡ false → has_member e.runs p ≡ false → settle_turn n (queue_of e slots) p ≡ []
-  settle_not slots h k = ap (λ m. settling m (kind (n.process p)) held p) (not_due slots h k) ∙ go (has_member e.unstarted p)
+  pub settle_not : (time : ℕ) (slots : List Slot) → has_member e.evaluates p ≡ false → has_member e.runs p ≡ false → settle_turn n (queue_of e time slots) p ≡ []
+  settle_not time slots h k = ap (λ m. settling m (kind (n.process p)) held p) (not_due time slots h k) ∙ go (has_member e.unstarted p)
     where
       go : (u : Bool) → settling (mode_of u false) (kind (n.process p)) held p ≡ []
       go true = refl
@@ -178,11 +178,11 @@ module _ (n : Network) (e : Events) (sound : IsSound n e) (p : ℕ) where
 
   -- ---- clocked blocks
 
-  pub clocked_is : (slots : List Slot) → is_clocked_kind (kind (n.process p)) ≡ true → has_member e.runs p ≡ true → Run p ∷ [] ≡ run_turn n (queue_of e slots) p
-  clocked_is slots c h = sym (ap₂ (λ m k. running m k p) (is_due slots (or_right (has_member e.evaluates p) (has_member e.runs p) h)) (clocked_kind (kind (n.process p)) c))
+  pub clocked_is : (time : ℕ) (slots : List Slot) → is_clocked_kind (kind (n.process p)) ≡ true → has_member e.runs p ≡ true → Run p ∷ [] ≡ run_turn n (queue_of e time slots) p
+  clocked_is time slots c h = sym (ap₂ (λ m k. running m k p) (is_due time slots (or_right (has_member e.evaluates p) (has_member e.runs p) h)) (clocked_kind (kind (n.process p)) c))
 
-  pub unclocked_not : (slots : List Slot) → is_clocked_kind (kind (n.process p)) ≡ false → run_turn n (queue_of e slots) p ≡ []
-  unclocked_not slots c = go ((queue_of e slots).mode p) (kind (n.process p)) c
+  pub unclocked_not : (time : ℕ) (slots : List Slot) → is_clocked_kind (kind (n.process p)) ≡ false → run_turn n (queue_of e time slots) p ≡ []
+  unclocked_not time slots c = go ((queue_of e time slots).mode p) (kind (n.process p)) c
     where
       go : (m : Mode) (k : Kind) → is_clocked_kind k ≡ false → running m k p ≡ []
       go Due AClocked h = cc
@@ -193,8 +193,8 @@ module _ (n : Network) (e : Events) (sound : IsSound n e) (p : ℕ) where
       go Unstarted k h = refl
       go Waiting k h = refl
 
-  pub unrun_not : (slots : List Slot) → is_clocked_kind (kind (n.process p)) ≡ true → has_member e.runs p ≡ false → run_turn n (queue_of e slots) p ≡ []
-  unrun_not slots c h = ap (λ m. running m (kind (n.process p)) p) (not_due slots (go (has_member e.evaluates p) refl) h) ∙ none (has_member e.unstarted p)
+  pub unrun_not : (time : ℕ) (slots : List Slot) → is_clocked_kind (kind (n.process p)) ≡ true → has_member e.runs p ≡ false → run_turn n (queue_of e time slots) p ≡ []
+  unrun_not time slots c h = ap (λ m. running m (kind (n.process p)) p) (not_due time slots (go (has_member e.evaluates p) refl) h) ∙ none (has_member e.unstarted p)
     where
       go : (b : Bool) → has_member e.evaluates p ≡ b → b ≡ false
       go true k = absurd (let same = sym (clocked_kind (kind (n.process p)) c) ∙ assign_kind (kind (n.process p)) (sound.evaluates p k) in let z : ⊥ = cc in z)
@@ -206,22 +206,22 @@ module _ (n : Network) (e : Events) (sound : IsSound n e) (p : ℕ) where
 
   -- ---- active updates
 
-  pub take_more : (now : Events) (q : Queue) (slots : List Slot) → has_member e.takes p ≡ true → queue_of now slots ≡ after n (queue_of e slots) (Take p) → AreLeft n p q (queue_of e slots) → AreLeft n p q (queue_of now slots)
-  take_more now q slots h is left =
+  pub take_more : (now : Events) (q : Queue) (time : ℕ) (slots : List Slot) → has_member e.takes p ≡ true → queue_of now time slots ≡ after n (queue_of e time slots) (Take p) → AreLeft n p q (queue_of e time slots) → AreLeft n p q (queue_of now time slots)
+  take_more now q time slots h is left =
       let f = some_written (get_or e.active p []) (sym (sound.takes p) ∙ h) in
-      let one = queue_of e slots in
+      let one = queue_of e time slots in
       let next = after n one (Take p) in
       ap (λ x. after_all n x (take_turn x p)) is ∙ ap (λ us. after_all n next (map (λ u. Take p) us)) (taken_left n one p f.0 f.1 f.2) ∙ sym (ap (λ us. after_all n one (map (λ u. Take p) us)) f.2) ∙ left
 
-  pub take_smaller : (now : Events) → has_member e.takes p ≡ true → queue_of now [] ≡ after n (queue_of e []) (Take p) → length (get_or now.active p []) < length (get_or e.active p [])
+  pub take_smaller : (now : Events) → has_member e.takes p ≡ true → queue_of now 0 [] ≡ after n (queue_of e 0 []) (Take p) → length (get_or now.active p []) < length (get_or e.active p [])
   take_smaller now h is =
       let f = some_written (get_or e.active p []) (sym (sound.takes p) ∙ h) in
-      let a : length (get_or now.active p []) ≡ length f.1 = ap length (ap (λ (q : Queue). q.active p) is ∙ taken_left n (queue_of e []) p f.0 f.1 f.2) in
+      let a : length (get_or now.active p []) ≡ length f.1 = ap length (ap (λ (q : Queue). q.active p) is ∙ taken_left n (queue_of e 0 []) p f.0 f.1 f.2) in
       let b : length (get_or e.active p []) ≡ suc (length f.1) = ap length f.2 in
       omega (arith, a, b)
 
-  pub take_over : (q : Queue) (slots : List Slot) → has_member e.takes p ≡ false → AreLeft n p q (queue_of e slots) → queue_of e slots ≡ after_all n q (take_turn q p)
-  take_over q slots h left = sym (ap (λ us. after_all n (queue_of e slots) (map (λ u. Take p) us)) (none_written (get_or e.active p []) (sym (sound.takes p) ∙ h))) ∙ left
+  pub take_over : (q : Queue) (time : ℕ) (slots : List Slot) → has_member e.takes p ≡ false → AreLeft n p q (queue_of e time slots) → queue_of e time slots ≡ after_all n q (take_turn q p)
+  take_over q time slots h left = sym (ap (λ us. after_all n (queue_of e time slots) (map (λ u. Take p) us)) (none_written (get_or e.active p []) (sym (sound.takes p) ∙ h))) ∙ left
 
 -- ---- which processes are clocked
 

@@ -41,3 +41,7 @@ pub mod Levelling
 pub mod Alone
 pub mod Owners
 pub mod Giving
+pub mod Delaying
+pub mod Timely
+pub mod Shifts
+pub mod Passing

@@ -5,8 +5,9 @@ use Rattle.std.specs.List.{list_any, list_all}
 use Rattle.std.proofs.lemmas.Bool.{and_parts}
 use Rattle.vs_four.specs.declared.Bit4.{Bit4}
 use Rattle.vs_four.specs.Tables.{same}
-use Rattle.vs_net.specs.Network.{State, Write, Update, put, Input, AnInput, AClocked, kind, Network, senses, made, updates}
-use Rattle.vs_net.specs.Queue.{Waiting, Slot, Queue, Choice, Start, Evaluate, Apply, Run, Take, Activate, Next, after, change, changes, woken, took, start}
+use Rattle.vs_net.specs.Network.{State, Write, Update, put, Input, AnInput, AClocked, kind, Network, senses, made, at_delay, but_delay, postponed, undelayed, delayed}
+use Rattle.vs_net.specs.Queue.{Waiting, Slot, Queue, Choice, Start, Evaluate, Apply, Run, Take, Activate, Advance, Next, after, change, changes, woken, took, start}
+use Rattle.vs_net.specs.LevelRun.{least_time, next_time}
 use Rattle.vs_net.specs.Bound.{bound, IsPartOfRun, HasNoNext}
 use Rattle.vs_design.specs.Expressions.{Signal}
 use Rattle.vs_design.specs.Designs.{Design, bit_count}
@@ -28,7 +29,7 @@ use Rattle.vs_design.proofs.Lawful.{lawful}
 use Rattle.vs_design.proofs.Parts.{beyond_count}
 use Rattle.vs_design.proofs.Starts.{same_order}
 use Rattle.vs_design.proofs.Begun.{initial_clocked}
-use Rattle.vs_queue.specs.Chosen.{open_steps, or_else, activation, beginning, possible_steps}
+use Rattle.vs_queue.specs.Chosen.{open_steps, or_else, activation, advance_to, beginning, possible_steps}
 use Rattle.vs_queue.specs.Longest.{begins_slot, greatest, longest, IsWithinSlot}
 use Rattle.vs_queue.specs.Reached.{IsReached}
 use Rattle.vs_queue.proofs.Choosing.{first_waits}
@@ -62,7 +63,10 @@ took_slots n q p [] slots = refl
 took_slots n q p (u ∷ us) slots = changes_slots n u (record q { active = put q.active p us }) slots
 
 ran_slots : (n : Network) (q : Queue) (p : ℕ) (slots : List Slot) → after n (with_slots q slots) (Run p) ≡ with_slots (after n q (Run p)) slots
-ran_slots n q p slots = ap (λ (done : Queue). record done { mode = put done.mode p Waiting; waiting = put done.waiting p (done.waiting p ++ updates (n.process p) q.now) }) (changes_slots n (made (n.process p) q.now) q slots)
+ran_slots n q p slots =
+    let us = delayed (n.process p) q.now in
+    ap (λ (done : Queue). record done { mode = put done.mode p Waiting; waiting = put done.waiting p (done.waiting p ++ undelayed (at_delay 0 us)); later = put done.later p (done.later p ++ postponed done.time (but_delay 0 us)) })
+    (changes_slots n (made (n.process p) q.now) q slots)
 
 after_slots : (n : Network) (q : Queue) (c : Choice) (slots : List Slot) → begins_slot c ≡ false → after n (with_slots q slots) c ≡ with_slots (after n q c) slots
 after_slots n q (Start p) slots h = refl
@@ -71,6 +75,7 @@ after_slots n q (Apply p) slots h = changes_slots n _ (record q { pending = put 
 after_slots n q (Run p) slots h = ran_slots n q p slots
 after_slots n q (Take p) slots h = took_slots n q p (q.active p) slots
 after_slots n q Activate slots h = refl
+after_slots n q (Advance time) slots h = refl
 after_slots n q Next slots h = cc
 
 greatest_same : (f g : Choice → ℕ) (cs : List Choice) → ((c : Choice) → f c ≡ g c) → greatest f cs ≡ greatest g cs
@@ -92,15 +97,20 @@ each_ahead n k q slots same c = go (begins_slot c) refl
     go true e = refl
     go false e = ap suc (ap (longest n k) (after_slots n q c slots e) ∙ same (after n q c))
 
-all_ahead : (n : Network) (k : ℕ) (q : Queue) (slots : List Slot) → ((x : Queue) → longest n k (with_slots x slots) ≡ longest n k x) → (os more : List Choice)
-    → greatest (ahead n k (with_slots q slots)) (or_else os (or_else more (beginning slots))) ≡ greatest (ahead n k q) (or_else os (or_else more (beginning q.slots)))
-all_ahead n k q slots same (c ∷ os) more = greatest_same (ahead n k (with_slots q slots)) (ahead n k q) (c ∷ os) (each_ahead n k q slots same)
-all_ahead n k q slots same [] (c ∷ more) = greatest_same (ahead n k (with_slots q slots)) (ahead n k q) (c ∷ more) (each_ahead n k q slots same)
-all_ahead n k q slots same [] [] = none_begins (ahead n k (with_slots q slots)) slots refl ∙ sym (none_begins (ahead n k q) q.slots refl)
+all_ahead : (n : Network) (k : ℕ) (q : Queue) (slots : List Slot) → ((x : Queue) → longest n k (with_slots x slots) ≡ longest n k x) → (os more later : List Choice)
+    → greatest (ahead n k (with_slots q slots)) (or_else os (or_else more (or_else later (beginning slots)))) ≡ greatest (ahead n k q) (or_else os (or_else more (or_else later (beginning q.slots))))
+all_ahead n k q slots same (c ∷ os) more later = greatest_same (ahead n k (with_slots q slots)) (ahead n k q) (c ∷ os) (each_ahead n k q slots same)
+all_ahead n k q slots same [] (c ∷ more) later = greatest_same (ahead n k (with_slots q slots)) (ahead n k q) (c ∷ more) (each_ahead n k q slots same)
+all_ahead n k q slots same [] [] (c ∷ later) = greatest_same (ahead n k (with_slots q slots)) (ahead n k q) (c ∷ later) (each_ahead n k q slots same)
+all_ahead n k q slots same [] [] [] = none_begins (ahead n k (with_slots q slots)) slots refl ∙ sym (none_begins (ahead n k q) q.slots refl)
+
+next_slots : (k : ℕ) (q : Queue) (slots : List Slot) → next_time k (with_slots q slots) ≡ next_time k q
+next_slots zero q slots = refl
+next_slots (suc k) q slots = ap (λ o. least_time o (q.later k)) (next_slots k q slots)
 
 pub longest_slots : (n : Network) (k : ℕ) (q : Queue) (slots : List Slot) → longest n k (with_slots q slots) ≡ longest n k q
 longest_slots n zero q slots = refl
-longest_slots n (suc k) q slots = all_ahead n k q slots (λ x. longest_slots n k x slots) (open_steps n q) (activation n q)
+longest_slots n (suc k) q slots = ap (λ o. greatest (ahead n k (with_slots q slots)) (or_else (open_steps n q) (or_else (activation n q) (or_else (advance_to o) (beginning slots))))) (next_slots n.count q slots) ∙ all_ahead n k q slots (λ x. longest_slots n k x slots) (open_steps n q) (activation n q) (advance_to (next_time n.count q))
 
 -- ---- the most steps in a slot of a design
 

@@ -71,10 +71,10 @@ ordered d clocks order first later e seed values steps r ended =
     let n = network_of d clocks in
     let from = start n (drawn_values (driven_bits d) order (idle_value d)) first later in
     record {
-      choices = r.done;
-      chosen = chosen_whole n from (seed_after (driven_bits d) order) (queue_of e []) seed values steps r (ended.over []);
-      values_are = values_whole n from (seed_after (driven_bits d) order) (queue_of e []) seed values steps r e.values refl;
-      steps_are = r.steps_are;
+      choices = r.reached.done;
+      chosen = chosen_whole n from (seed_after (driven_bits d) order) (queue_of e r.time []) seed values steps r.reached (ended.over r.time []);
+      values_are = values_whole n from (seed_after (driven_bits d) order) (queue_of e r.time []) seed values steps r.reached e.values refl;
+      steps_are = r.reached.steps_are;
     }
 
 -- so its slots end with the solution

@@ -3,7 +3,7 @@ use Rattle.std.proofs.Common.{◌≡◌, ℕ, suc, ◌%◌, false, List, [], ◌
 use Rattle.std.specs.Prelude.{slice_get}
 use Rattle.vs_four.specs.declared.Bit4.{Bit4}
 use Rattle.vs_net.specs.Network.{Network}
-use Rattle.vs_net.specs.Queue.{Queue, Choice, Start, Evaluate, Apply, Run, Take, Activate, Next, after, ends}
+use Rattle.vs_net.specs.Queue.{Queue, Choice, Start, Evaluate, Apply, Run, Take, Activate, Advance, Next, after, ends}
 use Rattle.vs_net.specs.LevelRun.{after_all}
 use Rattle.vs_writes.specs.Held.{state_of}
 use Rattle.vs_queue.specs.Chosen.{next_seed, drawn, possible_steps, IsChosen}
@@ -33,6 +33,7 @@ ends_of n q (Apply p) cs h = refl
 ends_of n q (Run p) cs h = refl
 ends_of n q (Take p) cs h = refl
 ends_of n q Activate cs h = refl
+ends_of n q (Advance time) cs h = refl
 ends_of n q Next cs h = cc
 
 ends_same : (n : Network) (done : List Choice) (q : Queue) (c : Choice) → begins_slot c ≡ false → ends_so_far n q (done ++ c ∷ []) ≡ ends_so_far n q done
@@ -43,6 +44,7 @@ ends_same n (Apply p ∷ done) q c h = ends_same n done (after n q (Apply p)) c 
 ends_same n (Run p ∷ done) q c h = ends_same n done (after n q (Run p)) c h
 ends_same n (Take p ∷ done) q c h = ends_same n done (after n q (Take p)) c h
 ends_same n (Activate ∷ done) q c h = ends_same n done (after n q Activate) c h
+ends_same n (Advance time ∷ done) q c h = ends_same n done (after n q (Advance time)) c h
 ends_same n (Next ∷ done) q c h = ap (λ xs. q.now ∷ xs) (ends_same n done (after n q Next) c h)
 
 ends_next : (n : Network) (done : List Choice) (q : Queue) → ends_so_far n q (done ++ Next ∷ []) ≡ ends_so_far n q done ++ (after_all n q done).now ∷ []
@@ -53,6 +55,7 @@ ends_next n (Apply p ∷ done) q = ends_next n done (after n q (Apply p))
 ends_next n (Run p ∷ done) q = ends_next n done (after n q (Run p))
 ends_next n (Take p ∷ done) q = ends_next n done (after n q (Take p))
 ends_next n (Activate ∷ done) q = ends_next n done (after n q Activate)
+ends_next n (Advance time ∷ done) q = ends_next n done (after n q (Advance time))
 ends_next n (Next ∷ done) q = ap (λ xs. q.now ∷ xs) (ends_next n done (after n q Next))
 
 -- with the values of the last slot they are those of the run
@@ -64,6 +67,7 @@ ends_whole n (Apply p ∷ done) q = ends_whole n done (after n q (Apply p))
 ends_whole n (Run p ∷ done) q = ends_whole n done (after n q (Run p))
 ends_whole n (Take p ∷ done) q = ends_whole n done (after n q (Take p))
 ends_whole n (Activate ∷ done) q = ends_whole n done (after n q Activate)
+ends_whole n (Advance time ∷ done) q = ends_whole n done (after n q (Advance time))
 ends_whole n (Next ∷ done) q = ap (λ xs. q.now ∷ xs) (ends_whole n done (after n q Next))
 
 more_counted : (k : ℕ) → counted (suc (counted k)) ≡ counted (suc k)

@@ -1,5 +1,5 @@
 -- A slot ends: how turns go on, and why they come to an end.
-use Rattle.std.proofs.Common.{◌≡◌, ℕ, zero, suc, ◌<◌, ◌%◌, Bool, true, false, ◌&&◌, ◌==◌, List, [], ◌∷◌, length, eqb-true, refl, sym, ap, ap₂, ◌∙◌, subst, arith, Option, Some, None, find, cond, if◌then◌else◌, map, ◌||◌}
+use Rattle.std.proofs.Common.{◌≡◌, ℕ, zero, suc, ◌<◌, ◌%◌, Bool, true, false, ◌&&◌, ◌==◌, List, [], ◌∷◌, length, eqb-true, refl, sym, ap, ap₂, ◌∙◌, subst, arith, Option, Some, None, find, cond, if◌then◌else◌, map}
 use Rattle.std.specs.Prelude.{slice_get, slice_index_or}
 use Rattle.std.specs.List.{list_any}
 use Rattle.std.proofs.lemmas.Bool.{and_parts}
@@ -21,6 +21,7 @@ use Rattle.vs_queue.specs.Runs.{IsUnderWay}
 use Rattle.vs_queue.specs.Turns.{IsTurn}
 use Rattle.vs_queue.proofs.Measure.{most_steps, AreFew, few_left, shorter}
 use Rattle.vs_queue.proofs.Reaching.{one_more}
+use Rattle.vs_queue.proofs.Shifts.{longest_shift, queue_shift}
 use Rattle.vs_queue.proofs.Told.{bits_are}
 
 -- ---- the names of the clocks
@@ -106,8 +107,8 @@ module _ (d : Design) (c : Clocked) (b : IsAcceptedBy d c) where
   few_here : Few c.bits (clock_names d c)
   few_here = subst (λ k. Few k (clock_names d c)) (sym (bits_are d c b)) (subst (λ names. Few (clock_bits b.accepted.clocks) names) names_are (few_left d b.names b.accepted))
 
-  pub few_now : (e : Events) (seed : ℕ) (ends : List (List Bit4)) (steps : ℕ) (u : IsUnderWay d c.bits e seed ends steps) → AreFew (network_of d c.bits) (most_by d c) (queue_of e u.slots)
-  few_now e seed ends steps u = few_here u.first u.vector u.later u.order (queue_of e u.slots) seed ends steps u.reached
+  pub few_now : (e : Events) (seed : ℕ) (ends : List (List Bit4)) (steps : ℕ) (u : IsUnderWay d c.bits e seed ends steps) → AreFew (network_of d c.bits) (most_by d c) (queue_of e u.reached.time u.slots)
+  few_now e seed ends steps u = few_here u.first u.vector u.later u.order (queue_of e u.reached.time u.slots) seed ends steps u.reached.reached
 
 -- ---- one turn
 
@@ -118,7 +119,13 @@ pub few_on : (n : Network) (most : ℕ) (q : Queue) (seed : ℕ) (now : Queue) �
 few_on n most q seed now few t cs h =
     let all = few (t.choice ∷ cs) ((drawn seed % length (possible_steps n q), t.drawn), t.within, subst (λ (x : Queue). IsWithinSlot n x cs) t.after h) in omega (arith, all)
 
-pub shorter_turn : (n : Network) (most : ℕ) (e now : Events) (slots : List Slot) (seed : ℕ) → AreFew n most (queue_of e slots) → IsTurn n (queue_of e slots) seed true (queue_of now slots) → longest n most (queue_of now []) < longest n most (queue_of e [])
-shorter_turn n most e now slots seed few t =
-    subst (λ (x : Queue). longest n most (record x { slots = [] }) < longest n most (queue_of e [])) (sym t.after)
-    (shorter n most (queue_of e slots) t.choice (drawn seed % length (possible_steps n (queue_of e slots))) [] few t.drawn t.within)
+pub shorter_turn : (n : Network) (most : ℕ) (e now : Events) (time next : ℕ) (slots : List Slot) (seed : ℕ) → AreFew n most (queue_of e time slots) → IsTurn n (queue_of e time slots) seed true (queue_of now next slots)
+    → longest n most (queue_of now 0 []) < longest n most (queue_of e 0 [])
+shorter_turn n most e now time next slots seed few t =
+    let a : longest n most (queue_of now next []) < longest n most (queue_of e time []) =
+    subst (λ (x : Queue). longest n most (record x { slots = [] }) < longest n most (queue_of e time [])) (sym t.after)
+    (shorter n most (queue_of e time slots) t.choice (drawn seed % length (possible_steps n (queue_of e time slots))) [] few t.drawn t.within)
+    in
+    let b : longest n most (queue_of now next []) ≡ longest n most (queue_of now 0 []) = ap (longest n most) (queue_shift now next []) ∙ longest_shift n most next (queue_of now 0 []) in
+    let c : longest n most (queue_of e time []) ≡ longest n most (queue_of e 0 []) = ap (longest n most) (queue_shift e time []) ∙ longest_shift n most time (queue_of e 0 []) in
+    omega (arith, a, b, c)

@@ -1,6 +1,6 @@
 -- A run begins, and its slots.
-use Rattle.std.proofs.Common.{◌≡◌, ℕ, zero, suc, ◌+◌, ◌<◌, ◌≤◌, ◌%◌, ◌^◌, Bool, true, false, ◌==◌, not, if◌then◌else◌, List, [], ◌∷◌, ◌++◌, map, replicate, length, get_or, refl, sym, ap, ap₂, ◌∙◌, subst, arith, Some, append-nil, append_assoc}
-use Rattle.std.specs.Prelude.{slice_get, nat_lt, IfSome, is_some, Option, None}
+use Rattle.std.proofs.Common.{◌≡◌, ℕ, zero, suc, ◌<◌, ◌≤◌, ◌%◌, ◌^◌, Bool, true, false, if◌then◌else◌, List, [], ◌∷◌, ◌++◌, map, replicate, length, get_or, refl, sym, ap, ap₂, ◌∙◌, subst, arith, Some, append-nil, append_assoc}
+use Rattle.std.specs.Prelude.{slice_get}
 use Rattle.std.proofs.lemmas.List.{length-map}
 use Rattle.vs_four.specs.declared.Bit4.{Bit4}
 use Rattle.vs_net.specs.Network.{State, Update, is_written, flatten, kind}
@@ -12,7 +12,6 @@ use Rattle.vs_design.specs.Expressions.{Signal}
 use Rattle.vs_design.specs.Designs.{Design, Process, Continuous, Always, is_clocked, bit_count, top_inputs}
 use Rattle.vs_design.specs.Values.{bits_of_signal}
 use Rattle.vs_design.specs.Clocks.{clock_bits}
-use Rattle.vs_design.specs.Elaborated.{have_bits_from}
 use Rattle.vs_design.specs.Initials.{sole_bits}
 use Rattle.vs_design.specs.RefusalLaws.{is_some_of}
 use Rattle.vs_design.specs.Networks.{spare_clocks, process_of, block_process, writer_of, spare_writers, keeper_of, all_processes, at_or_input, network_of}
@@ -23,17 +22,17 @@ use Rattle.vs_events.specs.declared.beginning.Role.TheVariants as R
 use Rattle.vs_events.specs.Beginning.{first_events, role_at, role_of, Drive, AreDriven, after_drives, BeginningIsStart, DrivingIsNext}
 use Rattle.vs_events.specs.Held.{Events, queue_of, after_activate}
 use Rattle.vs_queue.specs.Chosen.{next_seed, drawn}
-use Rattle.vs_queue.specs.Beginnings.{role_of_process, roles_of, driven_roles, all_roles}
+use Rattle.vs_queue.specs.Beginnings.{role_of_process, driven_roles, all_roles}
 use Rattle.vs_queue.specs.Spare.{spare_count, value_count, has_keeper}
 use Rattle.vs_queue.specs.Initially.{AllDriven, HasBegun}
 use Rattle.vs_queue.specs.Driven.{slot_drives}
 use Rattle.vs_queue.specs.Machines.{IsAcceptedBy}
 use Rattle.vs_queue.specs.Reached.{IsReached, counted}
 use Rattle.vs_queue.specs.Running.{IsRunning, IsInside}
-use Rattle.vs_queue.specs.Runs.{IsCopied, IsEnded}
+use Rattle.vs_queue.specs.Runs.{HasReached, IsCopied, IsEnded}
 use Rattle.vs_queue.specs.Sound.{BeginningIsSound, DrivesKeep, ActivationKeeps}
-use Rattle.vs_queue.specs.Turns.{IsRested}
-use Rattle.vs_queue.proofs.Drives.{clock_near, spare_small, each_given, are_driven, both_of, join_driven, wider_driven, all_driven, drives_run, drives_values, below_sum}
+use Rattle.vs_queue.specs.Turns.{IsRested, IsLast}
+use Rattle.vs_queue.proofs.Drives.{clock_near, spare_small, each_given, are_driven, both_of, join_driven, wider_driven, all_driven, drives_run, drives_values}
 use Rattle.vs_queue.proofs.Inputs.{few_inputs, both_drives}
 use Rattle.vs_queue.proofs.Reaching.{next_more, reached_first}
 use Rattle.vs_queue.proofs.Told.{bits_are}
@@ -130,6 +129,7 @@ first_inside count roles values h = record {
   pending = λ p b w. absurd (no_write b (subst (λ (ws : Update). is_written ws b ≡ true) (nothing_pending (length roles) p) w));
   active = λ p b w. absurd (none_written b (subst (λ (us : List Update). is_written (flatten us) b ≡ true) (nothing_at (length roles) p) w));
   waiting = λ p b w. absurd (none_written b (subst (λ (us : List Update). is_written (flatten us) b ≡ true) (nothing_at (length roles) p) w));
+  laters = tt;
 }
   where
     nothing_pending : (k p : ℕ) → get_or (replicate k (let ws : Update = [] in ws)) p [] ≡ []
@@ -171,7 +171,7 @@ module _ (d : Design) (c : Clocked) (b : IsAcceptedBy d c) where
       let few : bit_count d ≤ many = omega arith in
       let one = after_drives e h.firsts in
       let first = drives_run keep d c.bits h.firsts e r (wider_driven n.count (bit_count d) many h.firsts few h.firsts_there) in
-      let active : IsRunning d c.bits (after_activate one) = record { sound = activation n one first.sound; inside = record { values = first.inside.values; pending = first.inside.pending; active = first.inside.waiting; waiting = first.inside.active } } in
+      let active : IsRunning d c.bits (after_activate one) = record { sound = activation n one first.sound; inside = record { values = first.inside.values; pending = first.inside.pending; active = first.inside.waiting; waiting = first.inside.active; laters = first.inside.laters } } in
       subst (IsRunning d c.bits) (sym h.now_is) (drives_run keep d c.bits h.lates (after_activate one) active (wider_driven n.count (bit_count d) many h.lates few h.lates_there))
 
   given_values : (e now : Events) → HasBegun d c.bits e now → now.values ≡ e.values
@@ -188,7 +188,7 @@ module _ (d : Design) (c : Clocked) (b : IsAcceptedBy d c) where
       }
 
   pub begun_start : BeginningIsStart → (v : State) (later : List State) (values : List Bit4) (now : Events) → HasBegun d c.bits (first_events (all_roles d c.bits) values) now
-      → queue_of (after_drives now (slot_drives d c.bits (Fall v))) (Rise ∷ slots_of later) ≡ start (network_of d c.bits) (state_of values) v later
+      → queue_of (after_drives now (slot_drives d c.bits (Fall v))) 0 (Rise ∷ slots_of later) ≡ start (network_of d c.bits) (state_of values) v later
   begun_start law v later values now h =
       let n = network_of d c.bits in
       let ds = slot_drives d c.bits (Fall v) in
@@ -197,16 +197,16 @@ module _ (d : Design) (c : Clocked) (b : IsAcceptedBy d c) where
       let few : bit_count d ≤ value_count d c.bits = omega arith in
       let firsts = wider_driven n.count (bit_count d) (value_count d c.bits) h.firsts few h.firsts_there in
       let lates = wider_driven n.count (bit_count d) (value_count d c.bits) h.lates few h.lates_there in
-      ap (λ (x : Events). queue_of (after_drives x ds) (Rise ∷ slots_of later)) h.now_is
-      ∙ ap (λ (x : Events). queue_of x (Rise ∷ slots_of later)) (sym (both_drives h.lates ds (after_activate (after_drives e h.firsts))))
+      ap (λ (x : Events). queue_of (after_drives x ds) 0 (Rise ∷ slots_of later)) h.now_is
+      ∙ ap (λ (x : Events). queue_of x 0 (Rise ∷ slots_of later)) (sym (both_drives h.lates ds (after_activate (after_drives e h.firsts))))
       ∙ law n (all_roles d c.bits) values v later h.firsts (h.lates ++ ds) (roles_are d c.bits) (there h.firsts firsts) h.firsts_are (there (h.lates ++ ds) (join_driven n.count (value_count d c.bits) h.lates ds lates (driven (Fall v))))
       (λ p. both_of h.lates ds p ∙ ap₂ (λ (us ts : List Update). us ++ ts) (h.lates_are p) (each_given d c.bits (Fall v) p))
 
-  pub begun_reached : (first v : State) (later : List State) (seed : ℕ) (values : List Bit4) → state_of values ≡ first → (e : Events) → queue_of e (Rise ∷ slots_of later) ≡ start (network_of d c.bits) (state_of values) v later
-      → IsReached (network_of d c.bits) (start (network_of d c.bits) first v later) seed (queue_of e (Rise ∷ slots_of later)) seed [] 0
+  pub begun_reached : (first v : State) (later : List State) (seed : ℕ) (values : List Bit4) → state_of values ≡ first → (e : Events) → queue_of e 0 (Rise ∷ slots_of later) ≡ start (network_of d c.bits) (state_of values) v later
+      → HasReached (network_of d c.bits) (start (network_of d c.bits) first v later) seed e (Rise ∷ slots_of later) seed [] 0
   begun_reached first v later seed values is e begins =
       let n = network_of d c.bits in
-      subst (λ (q : Queue). IsReached n (start n first v later) seed q seed [] 0) (sym (begins ∙ ap (λ s. start n s v later) is)) (reached_first n (start n first v later) seed)
+      record { time = 0; reached = subst (λ (q : Queue). IsReached n (start n first v later) seed q seed [] 0) (sym (begins ∙ ap (λ s. start n s v later) is)) (reached_first n (start n first v later) seed) }
 
   -- ---- the next slot
 
@@ -216,18 +216,23 @@ module _ (d : Design) (c : Clocked) (b : IsAcceptedBy d c) where
       let stays = drives_values ds e in
       subst (λ x. IsCopied d c.bits x shadow) (sym is) (record { running = drives_run keep d c.bits ds e r.running (driven slot); shadow_is = r.shadow_is ∙ ap state_of (sym stays); long = r.long ∙ ap length (sym stays) })
 
-  -- where nothing waits, the slot begins with what it drives
-  pub next_is : DrivingIsNext → (e now : Events) (slot : Slot) → IsRunning d c.bits e → IsRested e → now ≡ after_drives e (slot_drives d c.bits slot) → (slots : List Slot) → queue_of now slots ≡ after (network_of d c.bits) (queue_of e (slot ∷ slots)) Next
-  next_is law e now slot r rested is slots =
+  -- where nothing waits and nothing comes later, the slot begins with what it drives
+  pub next_is : DrivingIsNext → (e now : Events) (slot : Slot) → IsRunning d c.bits e → IsRested e → IsLast e → now ≡ after_drives e (slot_drives d c.bits slot)
+      → (time : ℕ) (slots : List Slot) → queue_of now 0 slots ≡ after (network_of d c.bits) (queue_of e time (slot ∷ slots)) Next
+  next_is law e now slot r rested last is time slots =
       let n = network_of d c.bits in
       let ds = slot_drives d c.bits slot in
-      ap (λ x. queue_of x slots) is
-      ∙ law n e slot slots ds r.sound.held rested (subst (λ k. AreDriven k ds) (sym r.sound.count) (are_driven n.count (value_count d c.bits) ds (driven slot))) (each_given d c.bits slot)
+      ap (λ x. queue_of x 0 slots) is
+      ∙ law n e time slot slots ds r.sound.held rested last (subst (λ k. AreDriven k ds) (sym r.sound.count) (are_driven n.count (value_count d c.bits) ds (driven slot))) (each_given d c.bits slot)
 
   pub next_reached : DrivingIsNext → (e now : Events) (shadow : List Bit4) (slot : Slot) → IsCopied d c.bits e shadow → IsEnded d c.bits e → now ≡ after_drives e (slot_drives d c.bits slot)
-      → (from : Queue) (order : ℕ) (slots : List Slot) (seed : ℕ) (ends : List (List Bit4)) (steps : ℕ) → IsReached (network_of d c.bits) from order (queue_of e (slot ∷ slots)) seed ends steps
-      → IsReached (network_of d c.bits) from order (queue_of now slots) (next_seed seed) (ends ++ e.values ∷ []) (counted (suc steps))
+      → (from : Queue) (order : ℕ) (slots : List Slot) (seed : ℕ) (ends : List (List Bit4)) (steps : ℕ) → HasReached (network_of d c.bits) from order e (slot ∷ slots) seed ends steps
+      → HasReached (network_of d c.bits) from order now slots (next_seed seed) (ends ++ e.values ∷ []) (counted (suc steps))
   next_reached law e now shadow slot r ended is from order slots seed ends steps reached =
       let n = network_of d c.bits in
-      subst (λ (q : Queue). IsReached n from order q (next_seed seed) (ends ++ e.values ∷ []) (counted (suc steps))) (sym (next_is law e now slot r.running ended.rested is slots))
-      (next_more n from order (queue_of e (slot ∷ slots)) seed ends steps reached e.values refl (ap (λ (cs : List Choice). slice_get cs (drawn seed % length cs)) (ended.over (slot ∷ slots)) ∙ ap (λ k. slice_get (Next ∷ []) k) (mod_one (drawn seed))))
+      let t = reached.time in
+      record {
+        time = 0;
+        reached = subst (λ (q : Queue). IsReached n from order q (next_seed seed) (ends ++ e.values ∷ []) (counted (suc steps))) (sym (next_is law e now slot r.running ended.rested ended.last is t slots))
+            (next_more n from order (queue_of e t (slot ∷ slots)) seed ends steps reached.reached e.values refl (ap (λ (cs : List Choice). slice_get cs (drawn seed % length cs)) (ended.over t (slot ∷ slots)) ∙ ap (λ k. slice_get (Next ∷ []) k) (mod_one (drawn seed))));
+      }

@@ -1,6 +1,6 @@
 -- What is active and what waits as the parts of a slot go by.
-use Rattle.std.proofs.Common.{◌≡◌, ℕ, zero, suc, ◌<◌, ◌≤◌, Bool, true, false, List, [], ◌∷◌, ◌++◌, map, refl, sym, ap, ◌∙◌, subst, arith, unwrap_or, None, ◌⊎◌, inl, inr}
-use Rattle.vs_net.specs.Network.{Update, put, Network, Kind, AnInput, TheClock, AnAssign, AComb, AClocked, kind, made, updates}
+use Rattle.std.proofs.Common.{◌≡◌, ℕ, zero, suc, ◌<◌, ◌≤◌, Bool, true, false, List, [], ◌∷◌, ◌++◌, map, refl, sym, ap, ◌∙◌, subst, arith, append-nil, unwrap_or, None, ◌⊎◌, inl, inr}
+use Rattle.vs_net.specs.Network.{Update, put, Network, Kind, AnInput, TheClock, AnAssign, AComb, AClocked, kind, made, Delayed, at_delay, but_delay, postponed, undelayed, delayed}
 use Rattle.vs_net.specs.Queue.{Mode, Unstarted, Waiting, Due, Queue, Choice, Evaluate, Apply, Run, Take, after, changes, took, is_held}
 use Rattle.vs_net.specs.LevelRun.{after_all, each_in, below, settling, running}
 use Rattle.vs_net.proofs.Basics.{same_number, put-same, put-other}
@@ -32,13 +32,34 @@ run_active : (n : Network) (q : Queue) (p : ℕ) → (after n q (Run p)).active 
 run_active n q p = (changes_all n (made (n.process p) q.now) q).active
 
 -- a run that leaves no updates
-run_waiting : (n : Network) (q : Queue) (p : ℕ) → updates (n.process p) q.now ≡ [] → NoneWaiting q → NoneWaiting (after n q (Run p))
+run_waiting : (n : Network) (q : Queue) (p : ℕ) → delayed (n.process p) q.now ≡ [] → NoneWaiting q → NoneWaiting (after n q (Run p))
 run_waiting n q p none h r =
     let done = changes n q (made (n.process p) q.now) in
+    let us = undelayed (at_delay 0 (delayed (n.process p) q.now)) in
     let rests : (x : ℕ) → done.waiting x ≡ [] = (λ x. ap (λ (f : ℕ → List Update). f x) (changes_all n (made (n.process p) q.now) q).waiting ∙ h x) in
     same_number r p
-    (λ e. ap (put done.waiting p (done.waiting p ++ updates (n.process p) q.now)) e ∙ put-same done.waiting p (done.waiting p ++ updates (n.process p) q.now) ∙ ap (λ us. us ++ updates (n.process p) q.now) (rests p) ∙ none)
-    (λ ne. put-other done.waiting p (done.waiting p ++ updates (n.process p) q.now) r ne ∙ rests r)
+    (λ e. ap (put done.waiting p (done.waiting p ++ us)) e ∙ put-same done.waiting p (done.waiting p ++ us) ∙ ap (λ vs. vs ++ us) (rests p) ∙ ap (λ (ds : List Delayed). undelayed (at_delay 0 ds)) none)
+    (λ ne. put-other done.waiting p (done.waiting p ++ us) r ne ∙ rests r)
+
+-- the same comes later
+abbrev pub SameLater : (ℕ → List Delayed) → Queue → Type 0
+SameLater f q = (p : ℕ) → q.later p ≡ f p
+
+apply_later : (n : Network) (q : Queue) (p : ℕ) → (after n q (Apply p)).later ≡ q.later
+apply_later n q p = (changes_all n (unwrap_or (q.pending p) []) (record q { pending = put q.pending p None })).later
+
+run_later : (n : Network) (f : ℕ → List Delayed) (q : Queue) (p : ℕ) → delayed (n.process p) q.now ≡ [] → SameLater f q → SameLater f (after n q (Run p))
+run_later n f q p none h r =
+    let done = changes n q (made (n.process p) q.now) in
+    let ds = postponed done.time (but_delay 0 (delayed (n.process p) q.now)) in
+    let rests : (x : ℕ) → done.later x ≡ f x = (λ x. ap (λ (g : ℕ → List Delayed). g x) (changes_all n (made (n.process p) q.now) q).later ∙ h x) in
+    same_number r p
+    (λ e. ap (put done.later p (done.later p ++ ds)) e ∙ put-same done.later p (done.later p ++ ds) ∙ ap (λ es. done.later p ++ postponed done.time (but_delay 0 es)) none ∙ append-nil (done.later p) ∙ rests p ∙ ap f (sym e))
+    (λ ne. put-other done.later p (done.later p ++ ds) r ne ∙ rests r)
+
+took_later : (n : Network) (q : Queue) (p : ℕ) (us : List Update) → (took n q p us).later ≡ q.later
+took_later n q p [] = refl
+took_later n q p (u ∷ us) = (changes_all n u (record q { active = put q.active p us })).later
 
 took_waiting : (n : Network) (q : Queue) (p : ℕ) (us : List Update) → (took n q p us).waiting ≡ q.waiting
 took_waiting n q p [] = refl
@@ -74,7 +95,7 @@ module _ (n : Network) where
   settling_active Unstarted k held p q h = h
   settling_active Waiting k held p q h = h
 
-  settling_waiting : (m : Mode) (k : Kind) (held : Bool) (p : ℕ) (q : Queue) → (k ≡ AComb → updates (n.process p) q.now ≡ []) → NoneWaiting q → NoneWaiting (after_all n q (settling m k held p))
+  settling_waiting : (m : Mode) (k : Kind) (held : Bool) (p : ℕ) (q : Queue) → (k ≡ AComb → delayed (n.process p) q.now ≡ []) → NoneWaiting q → NoneWaiting (after_all n q (settling m k held p))
   settling_waiting Due AnAssign true p q none h = h
   settling_waiting Due AnAssign false p q none h = λ r. ap (λ (f : ℕ → List Update). f r) (apply_waiting n (after n q (Evaluate p)) p) ∙ h r
   settling_waiting Due AComb held p q none h = run_waiting n q p (none refl) h
@@ -87,8 +108,28 @@ module _ (n : Network) where
   pub pass_spent : (order : List ℕ) (q : Queue) → NoneActive q → NoneActive (after_all n q (each_in (settle_turn n) n q order))
   pass_spent order q h = each_keeps NoneActive (settle_turn n) n (λ r p x. settling_active (r.mode p) (kind (n.process p)) (is_held r.now (made (n.process p) r.now)) p r x) order q h
 
-  pub pass_resting : ((p : ℕ) (q : Queue) → kind (n.process p) ≡ AComb → updates (n.process p) q.now ≡ []) → (order : List ℕ) (q : Queue) → NoneWaiting q → NoneWaiting (after_all n q (each_in (settle_turn n) n q order))
+  pub pass_resting : ((p : ℕ) (q : Queue) → kind (n.process p) ≡ AComb → delayed (n.process p) q.now ≡ []) → (order : List ℕ) (q : Queue) → NoneWaiting q → NoneWaiting (after_all n q (each_in (settle_turn n) n q order))
   pass_resting none order q h = each_keeps NoneWaiting (settle_turn n) n (λ r p x. settling_waiting (r.mode p) (kind (n.process p)) (is_held r.now (made (n.process p) r.now)) p r (none p r) x) order q h
+
+  settling_later : (f : ℕ → List Delayed) (m : Mode) (k : Kind) (held : Bool) (p : ℕ) (q : Queue) → (k ≡ AComb → delayed (n.process p) q.now ≡ []) → SameLater f q → SameLater f (after_all n q (settling m k held p))
+  settling_later f Due AnAssign true p q none h = h
+  settling_later f Due AnAssign false p q none h = λ r. ap (λ (g : ℕ → List Delayed). g r) (apply_later n (after n q (Evaluate p)) p) ∙ h r
+  settling_later f Due AComb held p q none h = run_later n f q p (none refl) h
+  settling_later f Due AnInput held p q none h = h
+  settling_later f Due TheClock held p q none h = h
+  settling_later f Due AClocked held p q none h = h
+  settling_later f Unstarted k held p q none h = h
+  settling_later f Waiting k held p q none h = h
+
+  pub pass_later : (f : ℕ → List Delayed) → ((p : ℕ) (q : Queue) → kind (n.process p) ≡ AComb → delayed (n.process p) q.now ≡ []) → (order : List ℕ) (q : Queue) → SameLater f q → SameLater f (after_all n q (each_in (settle_turn n) n q order))
+  pass_later f none order q h = each_keeps (SameLater f) (settle_turn n) n (λ r p x. settling_later f (r.mode p) (kind (n.process p)) (is_held r.now (made (n.process p) r.now)) p r (none p r) x) order q h
+
+  takes_later : (f : ℕ → List Delayed) (p : ℕ) (us : List Update) (q : Queue) → SameLater f q → SameLater f (after_all n q (map (λ u. Take p) us))
+  takes_later f p [] q h = h
+  takes_later f p (u ∷ us) q h = takes_later f p us (after n q (Take p)) (λ r. ap (λ (g : ℕ → List Delayed). g r) (took_later n q p (q.active p)) ∙ h r)
+
+  pub all_taken_later : (f : ℕ → List Delayed) (ps : List ℕ) (q : Queue) → SameLater f q → SameLater f (after_all n q (each_in take_turn n q ps))
+  all_taken_later f ps q h = each_keeps (SameLater f) take_turn n (λ r p x. takes_later f p (r.active p) r x) ps q h
 
   -- ---- runs of clocked blocks
 

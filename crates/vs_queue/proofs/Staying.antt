@@ -1,18 +1,20 @@
 -- The lists stay sound as steps are taken.
 use Rattle.std.proofs.Common.{◌≡◌, ℕ, zero, suc, ◌<◌, Bool, true, false, not, ◌&&◌, ◌||◌, ◌==◌, if◌then◌else◌, List, [], ◌∷◌, ◌++◌, set, length, get_or, None, refl, sym, ap, ap₂, ◌∙◌, subst, arith, Some}
 use Rattle.std.specs.Prelude.{slice_get, Option}
-use Rattle.std.proofs.lemmas.Bool.{eqb-true}
+use Rattle.std.specs.List.{list_all}
+use Rattle.std.proofs.lemmas.Bool.{eqb-true, le-leb}
+use Rattle.std.proofs.lemmas.List.Folds.{list_all-append}
 use Rattle.std.proofs.lemmas.List.{get_or-set_same, get_or-set_other, length-set}
 use Rattle.vs_four.specs.declared.Bit4.{Bit4}
 use Rattle.vs_four.specs.Tables.{same}
-use Rattle.vs_net.specs.Network.{Write, Update, Process, Input, Clock, Assign, Comb, Clocked, Network, kind, senses}
+use Rattle.vs_net.specs.Network.{Write, Update, Delayed, but_delay, Process, Input, Clock, Assign, Comb, Clocked, Network, kind, senses}
 use Rattle.vs_net.specs.LevelRun.{is_empty}
 use Rattle.vs_net.specs.Checked.{is_assign, is_block}
 use Rattle.vs_ranked.specs.Members.{has_member}
 use Rattle.vs_writes.specs.Held.{state_of}
 use Rattle.vs_events.specs.declared.listener.Listener.{Listener}
 use Rattle.vs_events.specs.Hearing.{hears}
-use Rattle.vs_events.specs.Held.{Events, Dues, dues_of, waits, awake, all_awake, written, all_written, after_start, after_evaluate, after_take, IsHeld}
+use Rattle.vs_events.specs.Held.{Events, Dues, dues_of, waits, awake, all_awake, written, all_written, after_start, after_evaluate, after_rest, after_take, is_theirs, laters_of, prompt, IsHeld}
 use Rattle.vs_events.specs.Wired.{is_heard, IsWired, AreBelow}
 use Rattle.vs_events.proofs.Woken.{written_held, not_same}
 use Rattle.vs_queue.specs.Sound.{IsSound, WritesKeep, ActivationKeeps, StepsKeep}
@@ -156,6 +158,7 @@ activation_keeps n e sound =
         active = held.waiting;
         waiting = held.active;
         lates = held.takes;
+        laters = held.laters;
       };
       count = sound.count;
       kinds = sound.kinds;
@@ -196,7 +199,7 @@ module _ (n : Network) (e : Events) (p : ℕ) (sound : IsSound n e) (inside : p 
 
   start_keeps : IsSound n (after_start e p)
   start_keeps = record {
-    held = record { unstarted = length-set e.unstarted p false ∙ held.unstarted; evaluates = held.evaluates; runs = held.runs; applies = held.applies; pending = held.pending; takes = held.takes; active = held.active; waiting = held.waiting; lates = held.lates };
+    held = record { unstarted = length-set e.unstarted p false ∙ held.unstarted; evaluates = held.evaluates; runs = held.runs; applies = held.applies; pending = held.pending; takes = held.takes; active = held.active; waiting = held.waiting; lates = held.lates; laters = held.laters };
     count = sound.count;
     kinds = sound.kinds;
     unstarted = λ r up. sound.unstarted r (cleared e.unstarted held.unstarted r up);
@@ -215,7 +218,7 @@ module _ (n : Network) (e : Events) (p : ℕ) (sound : IsSound n e) (inside : p 
 
       go : (o : Option (List Write)) → IsSound n (after_evaluate e p o)
       go (Some ws) = record {
-        held = record { unstarted = held.unstarted; evaluates = length-set e.evaluates p false ∙ held.evaluates; runs = held.runs; applies = length-set e.applies p true ∙ held.applies; pending = length-set e.pending p ws ∙ held.pending; takes = held.takes; active = held.active; waiting = held.waiting; lates = held.lates };
+        held = record { unstarted = held.unstarted; evaluates = length-set e.evaluates p false ∙ held.evaluates; runs = held.runs; applies = length-set e.applies p true ∙ held.applies; pending = length-set e.pending p ws ∙ held.pending; takes = held.takes; active = held.active; waiting = held.waiting; lates = held.lates; laters = held.laters };
         count = sound.count;
         kinds = sound.kinds;
         unstarted = apart;
@@ -225,7 +228,7 @@ module _ (n : Network) (e : Events) (p : ℕ) (sound : IsSound n e) (inside : p 
         lates = sound.lates;
       }
       go None = record {
-        held = record { unstarted = held.unstarted; evaluates = length-set e.evaluates p false ∙ held.evaluates; runs = held.runs; applies = length-set e.applies p false ∙ held.applies; pending = length-set e.pending p [] ∙ held.pending; takes = held.takes; active = held.active; waiting = held.waiting; lates = held.lates };
+        held = record { unstarted = held.unstarted; evaluates = length-set e.evaluates p false ∙ held.evaluates; runs = held.runs; applies = length-set e.applies p false ∙ held.applies; pending = length-set e.pending p [] ∙ held.pending; takes = held.takes; active = held.active; waiting = held.waiting; lates = held.lates; laters = held.laters };
         count = sound.count;
         kinds = sound.kinds;
         unstarted = apart;
@@ -237,7 +240,7 @@ module _ (n : Network) (e : Events) (p : ℕ) (sound : IsSound n e) (inside : p 
 
   emptied_sound : IsSound n (record e { applies = set e.applies p false; pending = set e.pending p [] })
   emptied_sound = record {
-    held = record { unstarted = held.unstarted; evaluates = held.evaluates; runs = held.runs; applies = length-set e.applies p false ∙ held.applies; pending = length-set e.pending p [] ∙ held.pending; takes = held.takes; active = held.active; waiting = held.waiting; lates = held.lates };
+    held = record { unstarted = held.unstarted; evaluates = held.evaluates; runs = held.runs; applies = length-set e.applies p false ∙ held.applies; pending = length-set e.pending p [] ∙ held.pending; takes = held.takes; active = held.active; waiting = held.waiting; lates = held.lates; laters = held.laters };
     count = sound.count;
     kinds = sound.kinds;
     unstarted = sound.unstarted;
@@ -249,7 +252,7 @@ module _ (n : Network) (e : Events) (p : ℕ) (sound : IsSound n e) (inside : p 
 
   taken_sound : (us : List Update) → IsSound n (record e { active = set e.active p us; takes = set e.takes p (not (is_empty us)) })
   taken_sound us = record {
-    held = record { unstarted = held.unstarted; evaluates = held.evaluates; runs = held.runs; applies = held.applies; pending = held.pending; takes = length-set e.takes p (not (is_empty us)) ∙ held.takes; active = length-set e.active p us ∙ held.active; waiting = held.waiting; lates = held.lates };
+    held = record { unstarted = held.unstarted; evaluates = held.evaluates; runs = held.runs; applies = held.applies; pending = held.pending; takes = length-set e.takes p (not (is_empty us)) ∙ held.takes; active = length-set e.active p us ∙ held.active; waiting = held.waiting; lates = held.lates; laters = held.laters };
     count = sound.count;
     kinds = sound.kinds;
     unstarted = sound.unstarted;
@@ -267,16 +270,23 @@ module _ (n : Network) (e : Events) (p : ℕ) (sound : IsSound n e) (inside : p 
           has_value e.takes p r (not (is_empty us)) false (omega (arith, inside, held.takes)) k ∙ sound.takes r
           ∙ sym (ap (λ xs. not (is_empty xs)) (get_or-set_other e.active p r us [] (not_same r p k)))
 
-  rested_sound : (us : List Update) → IsSound n (record e { evaluates = set e.evaluates p false; runs = set e.runs p false; waiting = set e.waiting p (get_or e.waiting p [] ++ us); lates = if is_empty us then e.lates else (set e.lates p true) })
+  theirs : (us : List Delayed) → list_all (is_theirs (length e.assigns)) (e.laters ++ laters_of p us) ≡ true
+  theirs us = list_all-append (is_theirs (length e.assigns)) e.laters (laters_of p us) ∙ ap₂ ◌&&◌ held.laters (each us)
+    where
+      each : (us : List Delayed) → list_all (is_theirs (length e.assigns)) (laters_of p us) ≡ true
+      each [] = refl
+      each (u ∷ us) = ap₂ ◌&&◌ (le-leb (suc p) (length e.assigns) inside) (each us)
+
+  rested_sound : (us : List Delayed) → IsSound n (after_rest e p us)
   rested_sound us = record {
-    held = record { unstarted = held.unstarted; evaluates = length-set e.evaluates p false ∙ held.evaluates; runs = length-set e.runs p false ∙ held.runs; applies = held.applies; pending = held.pending; takes = held.takes; active = held.active; waiting = length-set e.waiting p (get_or e.waiting p [] ++ us) ∙ held.waiting; lates = long us };
+    held = record { unstarted = held.unstarted; evaluates = length-set e.evaluates p false ∙ held.evaluates; runs = length-set e.runs p false ∙ held.runs; applies = held.applies; pending = held.pending; takes = held.takes; active = held.active; waiting = length-set e.waiting p (get_or e.waiting p [] ++ prompt us) ∙ held.waiting; lates = long (prompt us); laters = theirs (but_delay 0 us) };
     count = sound.count;
     kinds = sound.kinds;
     unstarted = λ r up. (let off = both_off (has_member e.evaluates r) (has_member e.runs r) (sound.unstarted r up) in ap₂ ◌||◌ (less e.evaluates held.evaluates r off.0) (less e.runs held.runs r off.1));
     evaluates = λ r on. sound.evaluates r (cleared e.evaluates held.evaluates r on);
     runs = λ r on. sound.runs r (cleared e.runs held.runs r on);
     takes = sound.takes;
-    lates = λ r. at us r (r == p) refl;
+    lates = λ r. at (prompt us) r (r == p) refl;
   }
     where
       long : (us : List Update) → length (if is_empty us then e.lates else (set e.lates p true)) ≡ length e.assigns

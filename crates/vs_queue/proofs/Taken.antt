@@ -79,16 +79,16 @@ module _ (d : Design) (clocks : List ℕ) where
   abbrev n : Network
   n = network_of d clocks
 
-  pub taken_none : (steps : Queue → List Choice) (e : Events) (shadow : List Bit4) → IsCopied d clocks e shadow → ((slots : List Slot) → steps (queue_of e slots) ≡ []) → HasTaken d clocks steps e e shadow
-  taken_none steps e shadow r none = record { copied = r; swept = λ slots. ap (after_all n (queue_of e slots)) (sym (none slots)) }
+  pub taken_none : (steps : Queue → List Choice) (e : Events) (shadow : List Bit4) → IsCopied d clocks e shadow → ((time : ℕ) (slots : List Slot) → steps (queue_of e time slots) ≡ []) → HasTaken d clocks steps e e shadow
+  taken_none steps e shadow r none = record { copied = r; swept = λ time slots. ap (after_all n (queue_of e time slots)) (sym (none time slots)) }
 
-  pub taken_as : (f g : Queue → List Choice) (e now : Events) (shadow : List Bit4) → HasTaken d clocks f e now shadow → ((slots : List Slot) → f (queue_of e slots) ≡ g (queue_of e slots)) → HasTaken d clocks g e now shadow
-  taken_as f g e now shadow r same = record { copied = r.copied; swept = λ slots. r.swept slots ∙ ap (after_all n (queue_of e slots)) (same slots) }
+  pub taken_as : (f g : Queue → List Choice) (e now : Events) (shadow : List Bit4) → HasTaken d clocks f e now shadow → ((time : ℕ) (slots : List Slot) → f (queue_of e time slots) ≡ g (queue_of e time slots)) → HasTaken d clocks g e now shadow
+  taken_as f g e now shadow r same = record { copied = r.copied; swept = λ time slots. r.swept time slots ∙ ap (after_all n (queue_of e time slots)) (same time slots) }
 
   pub taken_then : (f g : Queue → List Choice) (e m now : Events) (before shadow : List Bit4) → HasTaken d clocks f e m before → HasTaken d clocks g m now shadow → HasTaken d clocks (λ q. f q ++ g (after_all n q (f q))) e now shadow
   taken_then f g e m now before shadow a b = record {
     copied = b.copied;
-    swept = λ slots. let q = queue_of e slots in b.swept slots ∙ ap (λ x. after_all n x (g x)) (a.swept slots) ∙ sym (after_both n (f q) (g (after_all n q (f q))) q);
+    swept = λ time slots. let q = queue_of e time slots in b.swept time slots ∙ ap (λ x. after_all n x (g x)) (a.swept time slots) ∙ sym (after_both n (f q) (g (after_all n q (f q))) q);
   }
 
   -- the turn of one process more
@@ -96,7 +96,7 @@ module _ (d : Design) (clocks : List ℕ) where
       → HasTaken d clocks (λ q. each_in turn n q (ps ++ p ∷ [])) e now shadow
   taken_more turn ps p e m now before shadow a b =
       taken_as (λ q. each_in turn n q ps ++ turn (after_all n q (each_in turn n q ps)) p) (λ q. each_in turn n q (ps ++ p ∷ [])) e now shadow
-      (taken_then (λ q. each_in turn n q ps) (λ q. turn q p) e m now before shadow a b) (λ slots. sym (each_more turn n ps p (queue_of e slots)))
+      (taken_then (λ q. each_in turn n q ps) (λ q. turn q p) e m now before shadow a b) (λ time slots. sym (each_more turn n ps p (queue_of e time slots)))
 
   pub taken_next : (turn : Queue → ℕ → List Choice) (p : ℕ) (e m now : Events) (before shadow : List Bit4) → HasTaken d clocks (λ q. each_in turn n q (below p)) e m before → HasTaken d clocks (λ q. turn q p) m now shadow
       → HasTaken d clocks (λ q. each_in turn n q (below (p + 1))) e now shadow
@@ -110,7 +110,7 @@ module _ (d : Design) (clocks : List ℕ) where
 
   -- one part more
   pub taken_last : (order : List ℕ) (s : Sweep) (e now : Events) (shadow : List Bit4) → HasTaken d clocks (λ q. sweep n order q s) e now shadow → HasTaken d clocks (λ q. sweeps n order q (s ∷ [])) e now shadow
-  taken_last order s e now shadow r = taken_as (λ q. sweep n order q s) (λ q. sweeps n order q (s ∷ [])) e now shadow r (λ slots. sym (append_nil (sweep n order (queue_of e slots) s)))
+  taken_last order s e now shadow r = taken_as (λ q. sweep n order q s) (λ q. sweeps n order q (s ∷ [])) e now shadow r (λ time slots. sym (append_nil (sweep n order (queue_of e time slots) s)))
 
   pub taken_part : (order : List ℕ) (s : Sweep) (ss : List Sweep) (e m now : Events) (before shadow : List Bit4) → HasTaken d clocks (λ q. sweep n order q s) e m before → HasTaken d clocks (λ q. sweeps n order q ss) m now shadow → HasTaken d clocks (λ q. sweeps n order q (s ∷ ss)) e now shadow
   taken_part order s ss e m now before shadow a b = taken_then (λ q. sweep n order q s) (λ q. sweeps n order q ss) e m now before shadow a b
@@ -131,7 +131,7 @@ module _ (d : Design) (clocks : List ℕ) where
   pub taken_parts : (order : List ℕ) (ss ts : List Sweep) (e m now : Events) (before shadow : List Bit4) → HasTaken d clocks (λ q. sweeps n order q ss) e m before → HasTaken d clocks (λ q. sweeps n order q ts) m now shadow → HasTaken d clocks (λ q. sweeps n order q (ss ++ ts)) e now shadow
   taken_parts order ss ts e m now before shadow a b =
       taken_as (λ q. sweeps n order q ss ++ sweeps n order (after_all n q (sweeps n order q ss)) ts) (λ q. sweeps n order q (ss ++ ts)) e now shadow
-      (taken_then (λ q. sweeps n order q ss) (λ q. sweeps n order q ts) e m now before shadow a b) (λ slots. sweeps_both order ss ts (queue_of e slots))
+      (taken_then (λ q. sweeps n order q ss) (λ q. sweeps n order q ts) e m now before shadow a b) (λ time slots. sweeps_both order ss ts (queue_of e time slots))
 
 -- what the machine does for a step
 pub step_taken : StepsRun → (d : Design) (c : Clocked) (b : IsAcceptedBy d c) (e now : Events) (table : List (List Listener)) (shadow next : List Bit4) → table ≡ listeners_of d c.bits → IsCopied d c.bits e shadow

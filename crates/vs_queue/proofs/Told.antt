@@ -3,7 +3,6 @@ use Rattle.std.proofs.Common.{List, ◌≡◌, ◌≤◌, ℕ, sym, ap, ◌∙�
 use Rattle.std.specs.Prelude.{slice_get}
 use Rattle.vs_net.specs.Queue.{Choice}
 use Rattle.vs_design.specs.Clocks.{clock_bits}
-use Rattle.vs_design.specs.Expressions.{Signal}
 use Rattle.vs_design.specs.Designs.{Design}
 use Rattle.vs_design.specs.Networks.{network_of}
 use Rattle.vs_clock.specs.Clocked.{Clocked}

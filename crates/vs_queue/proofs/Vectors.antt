@@ -6,12 +6,11 @@ use Rattle.vs_net.specs.Network.{State}
 use Rattle.vs_net.specs.Queue.{Slot, Fall, Rise, Queue, start, slots_of}
 use Rattle.vs_design.specs.Designs.{Design, top_inputs}
 use Rattle.vs_design.specs.Networks.{network_of, idle_value}
-use Rattle.vs_events.specs.Held.{Events, queue_of}
+use Rattle.vs_events.specs.Held.{Events}
 use Rattle.vs_queue.specs.Coming.{HasCome, ComesTo}
 use Rattle.vs_queue.specs.Driven.{Vector, AreGiven, AreVectors, IsDrive, IsSlotOf, data_inputs}
 use Rattle.vs_queue.specs.Ordered.{driven_bits, drawn_values, seed_after, IsOrderedRun}
-use Rattle.vs_queue.specs.Reached.{IsReached}
-use Rattle.vs_queue.specs.Runs.{IsUnderWay, IsEnded}
+use Rattle.vs_queue.specs.Runs.{HasReached, IsUnderWay, IsEnded}
 use Rattle.vs_queue.proofs.Periods.{vector_at, none_left, under_way, ordered}
 
 pub first_given : (d : Design) (clocks : List ℕ) (xs : List Vector) (x : Vector) (v : State) (vs : List State) → AreVectors d clocks xs (v ∷ vs) → slice_get xs 0 ≡ Some x → AreGiven (data_inputs clocks (top_inputs d)) x v
@@ -35,7 +34,7 @@ some_drive d clocks xs drive l = by_states xs drive.0 drive.1 l
 -- what a rise comes to, from a fall
 abbrev pub Rises : Design → List ℕ → Events → ℕ → List (List Bit4) → ℕ → Events → ℕ → List (List Bit4) → ℕ → Type 0
 Rises d clocks e seed ends steps now next values count =
-    (from : Queue) (order : ℕ) (slots : List Slot) → IsReached (network_of d clocks) from order (queue_of e (Rise ∷ slots)) seed ends steps → IsReached (network_of d clocks) from order (queue_of now slots) next values count
+    (from : Queue) (order : ℕ) (slots : List Slot) → HasReached (network_of d clocks) from order e (Rise ∷ slots) seed ends steps → HasReached (network_of d clocks) from order now slots next values count
 
 module _ (d : Design) (clocks : List ℕ) (order : ℕ) (xs : List Vector) (drive : SomeDrive d clocks xs) where
   -- ---- the first vector
@@ -58,13 +57,13 @@ module _ (d : Design) (clocks : List ℕ) (order : ℕ) (xs : List Vector) (driv
     next_slot = let v = vector_at d clocks k xs x (drive.first ∷ drive.later) drive.given at in (Fall v.value, v.given)
 
     module _ (e now : Events) (seed next : ℕ) (ends values : List (List Bit4)) (steps count : ℕ) (come : ComesTo d clocks order xs k e seed ends steps)
-        (begins : (from : Queue) (chosen : ℕ) (slot : Slot) (slots : List Slot) → IsSlotOf d clocks (Some x) slot → IsReached (network_of d clocks) from chosen (queue_of e (slot ∷ slots)) seed ends steps → IsReached (network_of d clocks) from chosen (queue_of now slots) next values count) where
+        (begins : (from : Queue) (chosen : ℕ) (slot : Slot) (slots : List Slot) → IsSlotOf d clocks (Some x) slot → HasReached (network_of d clocks) from chosen e (slot ∷ slots) seed ends steps → HasReached (network_of d clocks) from chosen now slots next values count) where
       fallen : (first : State) (later : List State) → AreVectors d clocks xs (first ∷ later) → HasCome d clocks order first later now (Rise ∷ slots_of (drop (suc k) (first ∷ later))) next values count
       fallen first later vs =
           let v = vector_at d clocks k xs x (first ∷ later) vs at in
           let from = start (network_of d clocks) (drawn_values (driven_bits d) order (idle_value d)) first later in
           begins from (seed_after (driven_bits d) order) (Fall v.value) (Rise ∷ slots_of (drop (suc k) (first ∷ later))) v.given
-          (subst (λ (ss : List Slot). IsReached (network_of d clocks) from (seed_after (driven_bits d) order) (queue_of e ss) seed ends steps) (ap slots_of v.rest) (come first later vs))
+          (subst (λ (ss : List Slot). HasReached (network_of d clocks) from (seed_after (driven_bits d) order) e ss seed ends steps) (ap slots_of v.rest) (come first later vs))
 
       pub next_under_way : (u : IsUnderWay d clocks now next values count) × (slots : List Slot) × (u.slots ≡ Rise ∷ slots)
       next_under_way =

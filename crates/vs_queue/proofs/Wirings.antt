@@ -31,7 +31,7 @@ use Rattle.vs_queue.specs.There.{AllThere}
 use Rattle.vs_events.specs.declared.listener.Change.TheVariants as C
 use Rattle.vs_queue.specs.Listens.{change_of, to_bit, to_event, block_listens, process_listens, listens_from, keeper_listens, listens_of, AreListeners, DesignIsWired}
 use Rattle.vs_queue.specs.Spare.{value_count, has_keeper, keeper_at}
-use Rattle.vs_queue.proofs.Drives.{clock_near, input_below}
+use Rattle.vs_queue.proofs.Drives.{clock_near}
 use Rattle.vs_queue.proofs.Spares.{network_count, keeper_one, before_keeper, with_keeper, clock_valued, first_there}
 
 -- ---- Booleans and numbers

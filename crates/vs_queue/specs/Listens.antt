@@ -1,5 +1,5 @@
 -- Who listens to the bits of a design (IEEE 1364-2005, 9.7.2, 9.7.5 and 11.6.1).
-use Rattle.std.specs.Prelude.{ℕ, suc, Bool, true, false, List, [], ◌∷◌, ◌++◌, map, replicate, slice_index_or, if◌then◌else◌, Option}
+use Rattle.std.specs.Prelude.{ℕ, suc, Bool, true, false, List, [], ◌∷◌, ◌++◌, map, replicate, slice_index_or, if◌then◌else◌}
 use Rattle.vs_design.specs.Clocks.{clock_bits, first_clock}
 use Rattle.vs_design.specs.Designs.{Edge, Any, Posedge, Negedge, Event, Process, Continuous, Always, is_clocked, Design, bit_count}
 use Rattle.vs_design.specs.Footprints.{reads_of, waits_of, ascending}

@@ -1,7 +1,7 @@
 -- What the lists of a queue keep of the network that it runs.
 use Rattle.std.specs.Prelude.{◌≡◌, ◌<◌, ℕ, ◌||◌, ◌%◌, true, false, not, List, [], length, slice_index_or, slice_get, Option, Some}
 use Rattle.vs_four.specs.declared.Bit4.{Bit4}
-use Rattle.vs_net.specs.Network.{Write, Update, Network, kind}
+use Rattle.vs_net.specs.Network.{Write, Update, Delayed, Network, kind}
 use Rattle.vs_net.specs.Queue.{Slot, Choice}
 use Rattle.vs_net.specs.LevelRun.{is_empty}
 use Rattle.vs_net.specs.Checked.{is_assign, is_block}
@@ -12,6 +12,7 @@ use Rattle.vs_events.specs.declared.beginning.Role.{Role}
 use Rattle.vs_events.specs.Beginning.{first_events, role_at, role_of}
 use Rattle.vs_events.specs.Wired.{IsWired, AreBelow}
 use Rattle.vs_events.specs.Choices.{steps_of}
+use Rattle.vs_events.specs.Times.{after_advance}
 use Rattle.vs_queue.specs.Chosen.{drawn, open_steps, possible_steps}
 
 pub record IsSound (n : Network) (e : Events) : Type 0 where
@@ -28,12 +29,12 @@ pub record IsSound (n : Network) (e : Events) : Type 0 where
 
 -- so the steps by rank are the possible ones in their order
 abbrev pub StepsArePossible : Type 0
-StepsArePossible = (n : Network) (e : Events) (slots : List Slot) → IsSound n e → steps_of e ≡ open_steps n (queue_of e slots)
+StepsArePossible = (n : Network) (e : Events) (time : ℕ) (slots : List Slot) → IsSound n e → steps_of e ≡ open_steps n (queue_of e time slots)
 
 -- and the one whose rank is drawn is the step that the number chooses, where a process has one
 abbrev pub DrawnIsPossible : Type 0
-DrawnIsPossible = (n : Network) (e : Events) (slots : List Slot) (seed : ℕ) (c : Choice) → IsSound n e → slice_get (steps_of e) (drawn seed % length (steps_of e)) ≡ Some c
-    → let possible = possible_steps n (queue_of e slots) in slice_get possible (drawn seed % length possible) ≡ Some c
+DrawnIsPossible = (n : Network) (e : Events) (time : ℕ) (slots : List Slot) (seed : ℕ) (c : Choice) → IsSound n e → slice_get (steps_of e) (drawn seed % length (steps_of e)) ≡ Some c
+    → let possible = possible_steps n (queue_of e time slots) in slice_get possible (drawn seed % length possible) ≡ Some c
 
 -- writes keep the lists sound, and so does the activation
 abbrev pub WritesKeep : Type 0
@@ -47,7 +48,7 @@ pub record StepsKeepAt (n : Network) (table : List (List Listener)) (e : Events)
   pub start : IsSound n (after_start e p)
   pub evaluate : (o : Option (List Write)) → IsSound n (after_evaluate e p o)
   pub apply : IsSound n (after_apply e table p)
-  pub run : (ws : List Write) (us : List Update) → IsSound n (after_run e table p ws us)
+  pub run : (ws : List Write) (us : List Delayed) → IsSound n (after_run e table p ws us)
   pub take : (us : List Update) → IsSound n (after_take e table p us)
 
 abbrev pub StepsKeep : Type 0
@@ -60,3 +61,7 @@ BeginningIsSound = (n : Network) (roles : List Role) (values : List Bit4) → le
 -- and stay so as inputs are driven
 abbrev pub DrivesKeep : Type 0
 DrivesKeep = (n : Network) (e : Events) (p : ℕ) (u : Update) → IsSound n e → p < length e.assigns → IsSound n (after_drive e p u)
+
+-- and as time goes by
+abbrev pub TimeKeeps : Type 0
+TimeKeeps = (n : Network) (e : Events) (left : ℕ) → IsSound n e → IsSound n (after_advance e left)

@@ -3,12 +3,12 @@ use Rattle.std.specs.Prelude.{◌≡◌, ℕ, Bool, true, false, List, [], ◌�
 use Rattle.vs_four.specs.declared.Bit4.{Bit4}
 use Rattle.vs_net.specs.Network.{Network, Kind, AClocked, kind, made}
 use Rattle.vs_net.specs.Queue.{Slot, Queue, Choice, Take, is_held}
-use Rattle.vs_net.specs.LevelRun.{Sweep, Starts, Pass, Activates, Takes, Runs, after_all, starting, settling, running}
+use Rattle.vs_net.specs.LevelRun.{Sweep, Starts, Pass, Activates, Takes, Runs, Laters, after_all, starting, settling, running}
 use Rattle.vs_design.specs.Designs.{Design}
 use Rattle.vs_design.specs.Networks.{network_of}
 use Rattle.vs_events.specs.Held.{Events, queue_of}
 use Rattle.vs_queue.specs.Runs.{IsCopied}
-use Rattle.vs_queue.specs.Turns.{IsRested, IsSpent}
+use Rattle.vs_queue.specs.Turns.{IsRested, IsSpent, IsLast}
 
 -- ---- the turn of one process
 
@@ -42,21 +42,31 @@ waiting_parts = Activates ∷ Takes ∷ Pass ∷ []
 abbrev pub slot_parts : List Sweep
 slot_parts = Activates ∷ Takes ∷ Pass ∷ Runs ∷ Pass ∷ waiting_parts
 
+-- and the later times
+abbrev pub whole_parts : List Sweep
+whole_parts = Activates ∷ Takes ∷ Pass ∷ Runs ∷ Pass ∷ Activates ∷ Takes ∷ Pass ∷ Laters ∷ []
+
 abbrev pub first_parts : List Sweep
-first_parts = Starts ∷ Takes ∷ Pass ∷ slot_parts
+first_parts = Starts ∷ Takes ∷ Pass ∷ whole_parts
 
 -- ---- the lists
 
--- the lists now are those after these steps, whatever slots are to come
+-- the lists now are those after these steps, whatever the time is and whatever slots are to come
 abbrev pub IsSwept : Network → (Queue → List Choice) → Events → Events → Type 0
-IsSwept n steps e now = (slots : List Slot) → queue_of now slots ≡ after_all n (queue_of e slots) (steps (queue_of e slots))
+IsSwept n steps e now = (time : ℕ) (slots : List Slot) → queue_of now time slots ≡ after_all n (queue_of e time slots) (steps (queue_of e time slots))
 
 -- they are, and the other copy of the values is the same
 pub record HasTaken (d : Design) (clocks : List ℕ) (steps : Queue → List Choice) (e now : Events) (shadow : List Bit4) : Type 0 where
   pub copied : IsCopied d clocks now shadow
   pub swept : IsSwept (network_of d clocks) steps e now
 
--- no update is active, and none waits
+-- they are at a later time, and the other copy of the values is the same
+pub record HasPassed (d : Design) (clocks : List ℕ) (steps : Queue → List Choice) (e now : Events) (shadow : List Bit4) : Type 0 where
+  pub copied : IsCopied d clocks now shadow
+  pub swept : (time : ℕ) (slots : List Slot) → (next : ℕ) × (queue_of now next slots ≡ after_all (network_of d clocks) (queue_of e time slots) (steps (queue_of e time slots)))
+
+-- no update is active, none waits, and none comes later
 pub record IsCalm (e : Events) : Type 0 where
   pub spent : IsSpent e
   pub rested : IsRested e
+  pub last : IsLast e

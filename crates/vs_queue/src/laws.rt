@@ -2,8 +2,8 @@
 
 ghost use Rattle.vs_queue.specs.Listens.{DesignIsWired};
 ghost use Rattle.vs_queue.specs.Longest.{EachStepShortens};
-ghost use Rattle.vs_queue.specs.Running.{ActivationRuns, StepsRun};
-ghost use Rattle.vs_queue.specs.Sound.{ActivationKeeps, BeginningIsSound, DrawnIsPossible, DrivesKeep, StepsArePossible, StepsKeep, WritesKeep};
+ghost use Rattle.vs_queue.specs.Running.{ActivationRuns, AdvanceRuns, StepsRun};
+ghost use Rattle.vs_queue.specs.Sound.{ActivationKeeps, BeginningIsSound, DrawnIsPossible, DrivesKeep, StepsArePossible, StepsKeep, TimeKeeps, WritesKeep};
 ghost use Rattle.vs_queue.specs.Laws.{ChosenIsCompleted, DrawnIsFirst, OneIsChosen};
 
 /// A number chooses one run of a network at most.
@@ -29,13 +29,14 @@ pub fn longest_law()
     ensures { EachStepShortens }
 {}
 
-/// The lists of a queue are sound at the beginning of a run, and stay so as inputs are driven, as bits are written, with the listeners of the network, as updates become active, and by each step of a process.
+/// The lists of a queue are sound at the beginning of a run, and stay so as inputs are driven, as bits are written, with the listeners of the network, as updates become active, as time goes by, and by each step of a process.
 pub fn keeping_law()
     ensures beginning { BeginningIsSound }
     ensures drives { DrivesKeep }
     ensures writes { WritesKeep }
     ensures activation { ActivationKeeps }
     ensures steps { StepsKeep }
+    ensures time { TimeKeeps }
 {}
 
 /// What is drawn for driven nets, or x for all of them, is what a run may begin with (IEEE 1364-2005, 4.2.1).
@@ -52,13 +53,15 @@ pub fn listeners_law()
     vs_design::within_law();
 }
 
-/// The lists of an accepted design's queue run on: with each step of a process, and with the activation, they are those of the queue after it, and what they keep are writes of the design's bits.
+/// The lists of an accepted design's queue run on: with each step of a process, with the activation and with the soonest later time, they are those of the queue after it, and what they keep are writes of the design's bits.
 pub fn running_law()
     ensures steps { StepsRun }
     ensures activation { ActivationRuns }
+    ensures advance { AdvanceRuns }
 {
     listeners_law();
     vs_events::step_law();
+    vs_events::time_law();
     vs_design::footprint_law();
     vs_design::lawful_law();
 }

@@ -4,12 +4,11 @@ ghost use Rattle.std.specs.Prelude.{◌≡◌, ◌<◌, ◌≤◌, ℕ, length, 
 ghost use Rattle.vs_net.specs.Queue as Q;
 ghost use Rattle.vs_design.specs.Networks.{network_of};
 ghost use Rattle.vs_events.specs.Choices.{choice_of, steps_of};
-ghost use Rattle.vs_events.specs.Held.{queue_of};
 ghost use Rattle.vs_flat.specs.DesignOf.{design_of};
 ghost use Rattle.vs_writes.specs.Held.{state_of};
 ghost use Rattle.vs_queue.specs.Machines.{IsMachine};
 ghost use Rattle.vs_queue.specs.Running.{IsRunning, stepped};
-ghost use Rattle.vs_queue.specs.Turns.{IsRested, IsTurn};
+ghost use Rattle.vs_queue.specs.Turns.{HasTurned, IsLast, IsRested};
 ghost use Rattle.std.specs.Prelude.{IfErr, false, true};
 ghost use Rattle.vs_net.specs.Queue.{Slot};
 ghost use Rattle.std.specs.Prelude.{List};
@@ -173,7 +172,7 @@ impl Machine<'_> {
         }
     }
 
-    /// One step within the slot: the one that is drawn of the possible steps of processes, or the activation. False where nothing is left in the slot, and then nothing changes.
+    /// One step within the slot: the one that is drawn of the possible steps of processes, or the activation, or the soonest of the later times. False where nothing is left in the slot, and then nothing changes.
     pub(crate) fn turn(
         &self,
         events: &mut Events,
@@ -184,10 +183,10 @@ impl Machine<'_> {
         requires running { IsRunning (design_of self.now.typed.now) self.now.clocks.now.bits events.old }
         requires shadow { state_of shadow.old ≡ state_of events.old.values }
         requires long { length shadow.old ≡ length events.old.values }
-        ensures turn { IfOk result (λ more. (slots : List Slot) → IsTurn (network_of (design_of self.now.typed.now) self.now.clocks.now.bits) (queue_of events.old slots) seed more (queue_of events.new slots)) }
+        ensures turn { IfOk result (λ more. (time : ℕ) (slots : List Slot) → HasTurned (network_of (design_of self.now.typed.now) self.now.clocks.now.bits) events.old time slots seed more events.new) }
         ensures running { OnOk result (IsRunning (design_of self.now.typed.now) self.now.clocks.now.bits events.new) }
         ensures shadow { OnOk result (state_of shadow.new ≡ state_of events.new.values) }
-        ensures rested { IfOk result (λ more. more ≡ false → IsRested events.new) }
+        ensures rested { IfOk result (λ more. more ≡ false → IsRested events.new × IsLast events.new) }
     {
         running_law();
         possible_law();
@@ -201,6 +200,12 @@ impl Machine<'_> {
             events.activate();
             return Ok(true);
         }
-        Ok(false)
+        match events.soonest() {
+            Some(left) => {
+                events.advance(self.alloc, left)?;
+                Ok(true)
+            }
+            None => Ok(false),
+        }
     }
 }

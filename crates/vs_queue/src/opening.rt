@@ -36,7 +36,7 @@ pub(crate) fn open(
     requires given { (v : State) × AreGiven (data_inputs machine.now.clocks.now.bits (D.top_inputs (design_of machine.now.typed.now))) vector.now v }
     ensures copied { IfOk result (λ r. IsCopied (design_of machine.now.typed.now) machine.now.clocks.now.bits r.0 r.1.items) }
     ensures start { IfOk result (λ r. (v : State) (later : List State) → AreGiven (data_inputs machine.now.clocks.now.bits (D.top_inputs (design_of machine.now.typed.now))) vector.now v
-        → queue_of r.0 (Rise ∷ slots_of later) ≡ start (network_of (design_of machine.now.typed.now) machine.now.clocks.now.bits) (state_of values.items) v later) }
+        → queue_of r.0 0 (Rise ∷ slots_of later) ≡ start (network_of (design_of machine.now.typed.now) machine.now.clocks.now.bits) (state_of values.items) v later) }
 {
     slot_law();
     keeping_law();

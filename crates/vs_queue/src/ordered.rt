@@ -8,7 +8,6 @@ ghost use Rattle.vs_net.specs.Laws.{AreKnownResets, IsKnownVector};
 ghost use Rattle.vs_net.specs.Solution.{IsSolution, beginning};
 ghost use Rattle.vs_design.specs.Designs as D;
 ghost use Rattle.vs_design.specs.Networks.{idle_value, network_of};
-ghost use Rattle.vs_events.specs.Held.{queue_of};
 ghost use Rattle.vs_flat.specs.DesignOf.{design_of};
 ghost use Rattle.vs_reads.specs.Footprint.{footprints_of};
 ghost use Rattle.vs_writes.specs.Held.{state_of};
@@ -16,8 +15,7 @@ ghost use Rattle.vs_queue.specs.Coming.{ComesTo};
 ghost use Rattle.vs_queue.specs.Driven.{AreGiven, AreVectors, IsDrive, data_inputs};
 ghost use Rattle.vs_queue.specs.Machines.{IsAcceptedBy, IsMachine};
 ghost use Rattle.vs_queue.specs.Ordered.{IsOrderedRun, driven_bits, drawn_values, seed_after};
-ghost use Rattle.vs_queue.specs.Reached.{IsReached};
-ghost use Rattle.vs_queue.specs.Runs.{IsCopied, IsEnded};
+ghost use Rattle.vs_queue.specs.Runs.{HasReached, IsCopied, IsEnded};
 ghost use Rattle.vs_queue.specs.Spare.{value_count};
 ghost use Rattle.vs_queue.specs.Whole.{AreWhole};
 
@@ -49,7 +47,7 @@ fn begin(
     ensures copied { IfOk result (λ r. IsCopied (design_of machine.now.typed.now) machine.now.clocks.now.bits r.events r.shadow.items) }
     ensures reached { IfOk result (λ r. (v : State) (later : List State) → AreGiven (data_inputs machine.now.clocks.now.bits (D.top_inputs (design_of machine.now.typed.now))) vector.now v
         → let d = design_of machine.now.typed.now in let n = network_of d machine.now.clocks.now.bits in
-        IsReached n (start n (drawn_values (driven_bits d) order (idle_value d)) v later) (seed_after (driven_bits d) order) (queue_of r.events (Rise ∷ slots_of later)) r.seed r.ends r.steps) }
+        HasReached n (start n (drawn_values (driven_bits d) order (idle_value d)) v later) (seed_after (driven_bits d) order) r.events (Rise ∷ slots_of later) r.seed r.ends r.steps) }
     ensures whole { IfOk result (λ r. AreWhole (design_of machine.now.typed.now) machine.now.clocks.now.bits 0 r.ends) }
 {
     let alloc = machine.alloc;

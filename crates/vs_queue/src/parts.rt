@@ -1,19 +1,19 @@
 //! The parts of a slot in a run in level order.
 
-ghost use Rattle.std.specs.Prelude.{◌≡◌, List, ℕ, true, OnOk};
+ghost use Rattle.std.specs.Prelude.{[], ◌≡◌, List, ℕ, length, true, OnOk};
 ghost use Rattle.vs_four.specs.declared.Bit4.{Bit4};
-ghost use Rattle.vs_net.specs.LevelRun.{Activates, Pass, Runs, Starts, Takes, sweep, sweeps};
+ghost use Rattle.vs_net.specs.LevelRun.{Activates, Laters, Pass, Runs, Starts, Takes, later_turn, next_time, sweep, sweeps};
 ghost use Rattle.vs_design.specs.Levels.{is_level_order};
 ghost use Rattle.vs_design.specs.Networks.{network_of};
 ghost use Rattle.vs_flat.specs.DesignOf.{design_of};
 ghost use Rattle.vs_queue.specs.Machines.{IsMachine};
 ghost use Rattle.vs_queue.specs.Running.{IsRunning};
 ghost use Rattle.vs_queue.specs.Runs.{IsCopied};
-ghost use Rattle.vs_queue.specs.Sweeps.{HasTaken, IsCalm, waiting_parts, first_parts, slot_parts};
-ghost use Rattle.vs_queue.specs.Turns.{IsRested, IsSpent};
+ghost use Rattle.vs_queue.specs.Sweeps.{HasPassed, HasTaken, IsCalm, first_parts, slot_parts, waiting_parts, whole_parts};
+ghost use Rattle.vs_queue.specs.Turns.{IsFewer, IsRested, IsSpent};
 
 use crate::first::keeper_at;
-use crate::laws::keeping_law;
+use crate::laws::{keeping_law, running_law};
 use crate::machine::Machine;
 use std::alloc::AllocError;
 use vs_design::lawful_law;
@@ -97,6 +97,7 @@ impl Machine<'_> {
         ensures taken { (order : List ℕ) (shadow : List Bit4) → IsCopied (design_of self.now.typed.now) self.now.clocks.now.bits events.old shadow
             → HasTaken (design_of self.now.typed.now) self.now.clocks.now.bits (λ q. sweep (network_of (design_of self.now.typed.now) self.now.clocks.now.bits) order q Activates) events.old events.new shadow }
         ensures rested { IsRested events.new }
+        ensures laters { events.new.laters ≡ events.old.laters }
     {
         step_law();
         keeping_law();
@@ -117,7 +118,9 @@ impl Machine<'_> {
         requires copied { IsCopied (design_of self.now.typed.now) self.now.clocks.now.bits events.old shadow.old }
         requires spent { IsSpent events.old }
         ensures taken { OnOk result (HasTaken (design_of self.now.typed.now) self.now.clocks.now.bits (λ q. sweeps (network_of (design_of self.now.typed.now) self.now.clocks.now.bits) order.now q waiting_parts) events.old events.new shadow.new) }
-        ensures calm { OnOk result (IsCalm events.new) }
+        ensures spent { OnOk result (IsSpent events.new) }
+        ensures rested { OnOk result (IsRested events.new) }
+        ensures laters { OnOk result (length events.new.laters ≡ length events.old.laters) }
     {
         lawful_law();
         self.activate(events);
@@ -125,8 +128,8 @@ impl Machine<'_> {
         self.pass(order, events, shadow)
     }
 
-    /// All parts of a slot behind its beginning. Nothing is active before, and nothing is active or waits after.
-    pub(crate) fn run_slot(
+    /// The parts of a slot behind its beginning, but the later times. Nothing is active before, and nothing is active or waits after.
+    fn run_parts(
         &self,
         order: &Order,
         events: &mut Events,
@@ -137,7 +140,8 @@ impl Machine<'_> {
         requires copied { IsCopied (design_of self.now.typed.now) self.now.clocks.now.bits events.old shadow.old }
         requires spent { IsSpent events.old }
         ensures taken { OnOk result (HasTaken (design_of self.now.typed.now) self.now.clocks.now.bits (λ q. sweeps (network_of (design_of self.now.typed.now) self.now.clocks.now.bits) order.now q slot_parts) events.old events.new shadow.new) }
-        ensures calm { OnOk result (IsCalm events.new) }
+        ensures spent { OnOk result (IsSpent events.new) }
+        ensures rested { OnOk result (IsRested events.new) }
     {
         self.settle_waiting(order, events, shadow)?;
         self.run_all(events, shadow)?;
@@ -145,7 +149,73 @@ impl Machine<'_> {
         self.settle_waiting(order, events, shadow)
     }
 
-    /// All parts of the first slot. Nothing is active or waits after.
+    /// The soonest of the later times, where there is one: what it brings becomes active and is applied, and a pass settles what hears it. Nothing is active or waits before, and nothing does after.
+    fn run_later(
+        &self,
+        order: &Order,
+        events: &mut Events,
+        shadow: &mut [Bit4],
+    ) -> Result<(), AllocError>
+        requires machine { IsMachine self.now.typed.now self.now.clocks.now self.now.wiring.now self.now.keeper }
+        requires order { is_level_order (design_of self.now.typed.now) order.now ≡ true }
+        requires copied { IsCopied (design_of self.now.typed.now) self.now.clocks.now.bits events.old shadow.old }
+        requires spent { IsSpent events.old }
+        requires rested { IsRested events.old }
+        ensures passed { OnOk result (HasPassed (design_of self.now.typed.now) self.now.clocks.now.bits (λ q. later_turn (network_of (design_of self.now.typed.now) self.now.clocks.now.bits) order.now q (λ r. []) (next_time (network_of (design_of self.now.typed.now) self.now.clocks.now.bits).count q)) events.old events.new shadow.new) }
+        ensures spent { OnOk result (IsSpent events.new) }
+        ensures rested { OnOk result (IsRested events.new) }
+        ensures fewer { OnOk result (IsFewer events.old.laters events.new.laters) }
+    {
+        running_law();
+        match events.soonest() {
+            Some(left) => {
+                events.advance(self.alloc, left)?;
+                self.settle_waiting(order, events, shadow)
+            }
+            None => Ok(()),
+        }
+    }
+
+    /// The later times, one after the other: at most as many as there are updates that come later. Nothing is active or waits before, and nothing does after, and nothing comes later.
+    fn run_laters(
+        &self,
+        order: &Order,
+        events: &mut Events,
+        shadow: &mut [Bit4],
+    ) -> Result<(), AllocError>
+        requires machine { IsMachine self.now.typed.now self.now.clocks.now self.now.wiring.now self.now.keeper }
+        requires order { is_level_order (design_of self.now.typed.now) order.now ≡ true }
+        requires copied { IsCopied (design_of self.now.typed.now) self.now.clocks.now.bits events.old shadow.old }
+        requires spent { IsSpent events.old }
+        requires rested { IsRested events.old }
+        ensures passed { OnOk result (HasPassed (design_of self.now.typed.now) self.now.clocks.now.bits (λ q. sweep (network_of (design_of self.now.typed.now) self.now.clocks.now.bits) order.now q Laters) events.old events.new shadow.new) }
+        ensures calm { OnOk result (IsCalm events.new) }
+    {
+        for _k in 0..events.later_count() {
+            self.run_later(order, events, shadow)?;
+        }
+        Ok(())
+    }
+
+    /// All parts of a slot behind its beginning. Nothing is active before, and nothing is active, waits or comes later after.
+    pub(crate) fn run_slot(
+        &self,
+        order: &Order,
+        events: &mut Events,
+        shadow: &mut [Bit4],
+    ) -> Result<(), AllocError>
+        requires machine { IsMachine self.now.typed.now self.now.clocks.now self.now.wiring.now self.now.keeper }
+        requires order { is_level_order (design_of self.now.typed.now) order.now ≡ true }
+        requires copied { IsCopied (design_of self.now.typed.now) self.now.clocks.now.bits events.old shadow.old }
+        requires spent { IsSpent events.old }
+        ensures passed { OnOk result (HasPassed (design_of self.now.typed.now) self.now.clocks.now.bits (λ q. sweeps (network_of (design_of self.now.typed.now) self.now.clocks.now.bits) order.now q whole_parts) events.old events.new shadow.new) }
+        ensures calm { OnOk result (IsCalm events.new) }
+    {
+        self.run_parts(order, events, shadow)?;
+        self.run_laters(order, events, shadow)
+    }
+
+    /// All parts of the first slot. Nothing is active, waits or comes later after.
     pub(crate) fn run_first_slot(
         &self,
         order: &Order,
@@ -155,7 +225,7 @@ impl Machine<'_> {
         requires machine { IsMachine self.now.typed.now self.now.clocks.now self.now.wiring.now self.now.keeper }
         requires order { is_level_order (design_of self.now.typed.now) order.now ≡ true }
         requires copied { IsCopied (design_of self.now.typed.now) self.now.clocks.now.bits events.old shadow.old }
-        ensures taken { OnOk result (HasTaken (design_of self.now.typed.now) self.now.clocks.now.bits (λ q. sweeps (network_of (design_of self.now.typed.now) self.now.clocks.now.bits) order.now q first_parts) events.old events.new shadow.new) }
+        ensures passed { OnOk result (HasPassed (design_of self.now.typed.now) self.now.clocks.now.bits (λ q. sweeps (network_of (design_of self.now.typed.now) self.now.clocks.now.bits) order.now q first_parts) events.old events.new shadow.new) }
         ensures calm { OnOk result (IsCalm events.new) }
     {
         self.start_all(events, shadow)?;

@@ -10,12 +10,11 @@ ghost use Rattle.vs_net.specs.Solution.{IsSolution, beginning};
 ghost use Rattle.vs_design.specs.Designs as D;
 ghost use Rattle.vs_design.specs.Levels.{is_level_order};
 ghost use Rattle.vs_design.specs.Networks.{idle_value, network_of};
-ghost use Rattle.vs_events.specs.Held.{queue_of};
 ghost use Rattle.vs_flat.specs.DesignOf.{design_of};
 ghost use Rattle.vs_reads.specs.Footprint.{footprints_of};
 ghost use Rattle.vs_writes.specs.Held.{state_of};
 ghost use Rattle.vs_queue.specs.Driven.{AreGiven, AreVectors, IsDrive, IsSlotOf, data_inputs};
-ghost use Rattle.vs_queue.specs.Levelled.{GoesTo, IsLevelled};
+ghost use Rattle.vs_queue.specs.Levelled.{GoesTo, HasLevelled};
 ghost use Rattle.vs_queue.specs.Machines.{IsAcceptedBy, IsMachine};
 ghost use Rattle.vs_queue.specs.Ordered.{IsPlainRun, driven_bits, x_values};
 ghost use Rattle.vs_queue.specs.Runs.{IsCopied};
@@ -63,7 +62,7 @@ fn first_slot(
     ensures calm { IfOk result (λ r. IsCalm r.events) }
     ensures levelled { IfOk result (λ r. (v : State) (later : List State) → AreGiven (data_inputs machine.now.clocks.now.bits (D.top_inputs (design_of machine.now.typed.now))) vector.now v
         → let d = design_of machine.now.typed.now in let n = network_of d machine.now.clocks.now.bits in
-        IsLevelled n order.now (start n (x_values (driven_bits d) (idle_value d)) v later) (queue_of r.events (Rise ∷ slots_of later)) r.ends (slot_sweeps (Rise ∷ slots_of later))) }
+        HasLevelled n order.now (start n (x_values (driven_bits d) (idle_value d)) v later) r.events (Rise ∷ slots_of later) r.ends (slot_sweeps (Rise ∷ slots_of later))) }
     ensures whole { IfOk result (λ r. AreWhole (design_of machine.now.typed.now) machine.now.clocks.now.bits 0 r.ends) }
 {
     let alloc = machine.alloc;
@@ -95,7 +94,7 @@ fn next_slot(
     ensures calm { OnOk result (IsCalm run.new.events) }
     ensures levelled { OnOk result ((slot : Slot) → IsSlotOf (design_of machine.now.typed.now) machine.now.clocks.now.bits (option_map (λ v. v.now) vector.entry) slot → (from : Queue) (slots : List Slot)
         → let n = network_of (design_of machine.now.typed.now) machine.now.clocks.now.bits in
-        IsLevelled n order.now from (queue_of run.old.events (slot ∷ slots)) run.old.ends (slot_sweeps (slot ∷ slots)) → IsLevelled n order.now from (queue_of run.new.events slots) run.new.ends (slot_sweeps slots)) }
+        HasLevelled n order.now from run.old.events (slot ∷ slots) run.old.ends (slot_sweeps (slot ∷ slots)) → HasLevelled n order.now from run.new.events slots run.new.ends (slot_sweeps slots)) }
     ensures whole { (count : ℕ) → AreWhole (design_of machine.now.typed.now) machine.now.clocks.now.bits count run.old.ends → OnOk result (AreWhole (design_of machine.now.typed.now) machine.now.clocks.now.bits (count + 1) run.new.ends) }
 {
     slot_law();

@@ -6,12 +6,10 @@ ghost use Rattle.vs_net.specs.Network.{State};
 ghost use Rattle.vs_net.specs.Queue.{Queue, Slot, Fall, Rise};
 ghost use Rattle.vs_design.specs.Designs as D;
 ghost use Rattle.vs_design.specs.Networks.{network_of};
-ghost use Rattle.vs_events.specs.Held.{queue_of};
 ghost use Rattle.vs_flat.specs.DesignOf.{design_of};
 ghost use Rattle.vs_queue.specs.Driven.{AreGiven, IsSlotOf, data_inputs};
 ghost use Rattle.vs_queue.specs.Machines.{IsMachine};
-ghost use Rattle.vs_queue.specs.Reached.{IsReached};
-ghost use Rattle.vs_queue.specs.Runs.{IsCopied, IsEnded, IsUnderWay};
+ghost use Rattle.vs_queue.specs.Runs.{HasReached, IsCopied, IsEnded, IsUnderWay};
 ghost use Rattle.vs_queue.specs.Whole.{AreWhole};
 
 use crate::laws::keeping_law;
@@ -40,8 +38,8 @@ impl Machine<'_> {
         requires copied { IsCopied (design_of self.now.typed.now) self.now.clocks.now.bits run.old.events run.old.shadow.items }
         requires under_way { IsUnderWay (design_of self.now.typed.now) self.now.clocks.now.bits run.old.events run.old.seed run.old.ends run.old.steps }
         ensures copied { OnOk result (IsCopied (design_of self.now.typed.now) self.now.clocks.now.bits run.new.events run.new.shadow.items) }
-        ensures reached { OnOk result ((from : Queue) (order : ℕ) (slots : List Slot) → IsReached (network_of (design_of self.now.typed.now) self.now.clocks.now.bits) from order (queue_of run.old.events slots) run.old.seed run.old.ends run.old.steps
-            → IsReached (network_of (design_of self.now.typed.now) self.now.clocks.now.bits) from order (queue_of run.new.events slots) run.new.seed run.new.ends run.new.steps) }
+        ensures reached { OnOk result ((from : Queue) (order : ℕ) (slots : List Slot) → HasReached (network_of (design_of self.now.typed.now) self.now.clocks.now.bits) from order run.old.events slots run.old.seed run.old.ends run.old.steps
+            → HasReached (network_of (design_of self.now.typed.now) self.now.clocks.now.bits) from order run.new.events slots run.new.seed run.new.ends run.new.steps) }
         ensures ended { OnOk result (IsEnded (design_of self.now.typed.now) self.now.clocks.now.bits run.new.events) }
         ensures ends { OnOk result (run.new.ends ≡ run.old.ends) }
     {
@@ -64,8 +62,8 @@ impl Machine<'_> {
         requires slot { (slot : Slot) × IsSlotOf (design_of self.now.typed.now) self.now.clocks.now.bits (option_map (λ v. v.now) vector) slot }
         ensures copied { OnOk result (IsCopied (design_of self.now.typed.now) self.now.clocks.now.bits run.new.events run.new.shadow.items) }
         ensures reached { OnOk result ((from : Queue) (order : ℕ) (slot : Slot) (slots : List Slot) → IsSlotOf (design_of self.now.typed.now) self.now.clocks.now.bits (option_map (λ v. v.now) vector.entry) slot
-            → IsReached (network_of (design_of self.now.typed.now) self.now.clocks.now.bits) from order (queue_of run.old.events (slot ∷ slots)) run.old.seed run.old.ends run.old.steps
-            → IsReached (network_of (design_of self.now.typed.now) self.now.clocks.now.bits) from order (queue_of run.new.events slots) run.new.seed run.new.ends run.new.steps) }
+            → HasReached (network_of (design_of self.now.typed.now) self.now.clocks.now.bits) from order run.old.events (slot ∷ slots) run.old.seed run.old.ends run.old.steps
+            → HasReached (network_of (design_of self.now.typed.now) self.now.clocks.now.bits) from order run.new.events slots run.new.seed run.new.ends run.new.steps) }
         ensures whole { (count : ℕ) → AreWhole (design_of self.now.typed.now) self.now.clocks.now.bits count run.old.ends → OnOk result (AreWhole (design_of self.now.typed.now) self.now.clocks.now.bits (count + 1) run.new.ends) }
     {
         slot_law();
@@ -83,8 +81,8 @@ impl Machine<'_> {
         requires copied { IsCopied (design_of self.now.typed.now) self.now.clocks.now.bits run.old.events run.old.shadow.items }
         requires under_way { (u : IsUnderWay (design_of self.now.typed.now) self.now.clocks.now.bits run.old.events run.old.seed run.old.ends run.old.steps) × (slots : List Slot) × (u.slots ≡ Rise ∷ slots) }
         ensures copied { OnOk result (IsCopied (design_of self.now.typed.now) self.now.clocks.now.bits run.new.events run.new.shadow.items) }
-        ensures reached { OnOk result ((from : Queue) (order : ℕ) (slots : List Slot) → IsReached (network_of (design_of self.now.typed.now) self.now.clocks.now.bits) from order (queue_of run.old.events (Rise ∷ slots)) run.old.seed run.old.ends run.old.steps
-            → IsReached (network_of (design_of self.now.typed.now) self.now.clocks.now.bits) from order (queue_of run.new.events slots) run.new.seed run.new.ends run.new.steps) }
+        ensures reached { OnOk result ((from : Queue) (order : ℕ) (slots : List Slot) → HasReached (network_of (design_of self.now.typed.now) self.now.clocks.now.bits) from order run.old.events (Rise ∷ slots) run.old.seed run.old.ends run.old.steps
+            → HasReached (network_of (design_of self.now.typed.now) self.now.clocks.now.bits) from order run.new.events slots run.new.seed run.new.ends run.new.steps) }
         ensures ended { OnOk result (IsEnded (design_of self.now.typed.now) self.now.clocks.now.bits run.new.events) }
         ensures whole { (count : ℕ) → AreWhole (design_of self.now.typed.now) self.now.clocks.now.bits count run.old.ends → OnOk result (AreWhole (design_of self.now.typed.now) self.now.clocks.now.bits (count + 1) run.new.ends) }
     {

@@ -2,6 +2,7 @@
 
 ghost use Rattle.std.specs.Prelude.{◌≡◌, ◌<◌, ◌≤◌, ◌+◌, ℕ, drop, filter, length, map, slice_get, true, if◌then◌else◌, Some, IfOk, OnOk};
 ghost use Rattle.std.specs.List.{All, flat_map, list_all, list_any};
+ghost use Rattle.vs_net.specs.Network as N;
 ghost use Rattle.vs_design.specs.Designs as D;
 ghost use Rattle.vs_design.specs.Fits.{fits_initial};
 ghost use Rattle.vs_design.specs.Footprints.{contains, statement_bits};
@@ -26,7 +27,7 @@ use vs_interpret::run_initial;
 use vs_reads::{Footprints, fit_initial, footprint_law};
 use vs_shape::Walk;
 use vs_typed::Typed;
-use vs_writes::{Effect, Update, Write};
+use vs_writes::{Delayed, Effect, Update, Write};
 
 /// The bits that initial process k writes.
 fn initial_bits(alloc: Global, typed: &Typed, k: u32) -> Result<Vec<u32>, AllocError>
@@ -218,16 +219,16 @@ fn drive_parts(
     Ok(())
 }
 
-/// Each process is driven by its parts of these updates.
+/// Each process is driven by its parts of these updates, in their order.
 fn drive_updates(
     alloc: Global,
     events: &mut Events,
     owners: &[u32],
-    updates: &[Update],
+    updates: &[Delayed],
 ) -> Result<(), AllocError>
-    requires inside { All (All (λ w. w.bit < length owners.now)) updates.now }
-    requires there { All (All (λ w. owner owners.now w.bit < length events.old.assigns)) updates.now }
-    ensures { OnOk result (events.new ≡ after_drives events.old (parts_of owners.now updates.now)) }
+    requires inside { All (All (λ w. w.bit < length owners.now)) (N.undelayed updates.now) }
+    requires there { All (All (λ w. owner owners.now w.bit < length events.old.assigns)) (N.undelayed updates.now) }
+    ensures { OnOk result (events.new ≡ after_drives events.old (parts_of owners.now (N.undelayed updates.now))) }
 {
     for update in updates {
         drive_parts(alloc, events, owners, update.as_slice())?;
@@ -252,9 +253,10 @@ impl Machine<'_> {
         requires machine { IsMachine self.now.typed.now self.now.clocks.now self.now.wiring.now self.now.keeper }
         requires there { k < length (design_of self.now.typed.now).initials }
         requires values { D.bit_count (design_of self.now.typed.now) ≤ length values.old }
-        ensures { IfOk result (λ f. (i : D.Initial) → slice_get (design_of self.now.typed.now).initials k ≡ Some i → (f.writes ≡ initial_writes i) × (f.updates ≡ initial_updates i)) }
+        ensures { IfOk result (λ f. (i : D.Initial) → slice_get (design_of self.now.typed.now).initials k ≡ Some i → (f.writes ≡ initial_writes i) × (N.undelayed f.updates ≡ initial_updates i)) }
     {
         trees_law();
+        vs_design::delay_law();
         let _flat = self.typed.flat();
         run_initial(self.alloc, self.typed.shapes(), values, k)
     }

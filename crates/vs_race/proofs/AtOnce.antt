@@ -53,7 +53,7 @@ target_among false t b h = cc
 mutual
   statement_among : (s : Statement) → Among (blocking_bits s) (statement_bits s)
   statement_among Empty = λ b h. h
-  statement_among (Assignment place target e blocking) = target_among blocking target
+  statement_among (Assignment place target e blocking delay) = target_among blocking target
   statement_among (Then first rest) = both_among (blocking_bits first) (blocking_bits rest) (statement_bits first) (statement_bits rest) (statement_among first) (statement_among rest)
   statement_among (If c taken other) = both_among (blocking_bits taken) (blocking_bits other) (statement_bits taken) (statement_bits other) (statement_among taken) (statement_among other)
   statement_among (Case kind subject arms) = arms_among arms

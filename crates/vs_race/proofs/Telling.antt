@@ -1,5 +1,5 @@
 -- What stirrers tell.
-use Rattle.std.proofs.Common.{◌≡◌, ◌≢◌, ℕ, Bool, true, false, not, ◌||◌, ◌==◌, if◌then◌else◌, refl, sym, ap, ◌∙◌, eqb-true, eq-eqb}
+use Rattle.std.proofs.Common.{◌≡◌, ◌≢◌, ℕ, Bool, true, false, ◌||◌, ◌==◌, if◌then◌else◌, refl, sym, ap, ◌∙◌, eqb-true, eq-eqb}
 use Rattle.vs_race.specs.declared.stirrer.Stirrer.{Stirrer}
 use Rattle.vs_race.specs.declared.stirrer.Stirrer.TheVariants.{Nobody, One, Several}
 use Rattle.vs_race.specs.Stirrers.{joined, has_other, Tells}

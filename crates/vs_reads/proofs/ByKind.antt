@@ -1,5 +1,5 @@
 -- The process that an item of a flat design stands for, by its kind.
-use Rattle.std.proofs.Common.{◌≡◌, ℕ, ◌<◌, Bool, true, ◌&&◌, refl, sym, ap, ◌∙◌, Some, Option, nat_lt, length}
+use Rattle.std.proofs.Common.{◌≡◌, ℕ, ◌<◌, true, ◌&&◌, refl, sym, ap, ◌∙◌, Some, Option, nat_lt, length}
 use Rattle.std.specs.Prelude.{slice_get}
 use Rattle.std.proofs.lemmas.Bool.{ltb-true}
 use Rattle.vs_design.specs.Designs.{process_place}

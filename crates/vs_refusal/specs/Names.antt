@@ -3,7 +3,7 @@ use Rattle.std.specs.Prelude.{ℕ, List, codes}
 use Rattle.vs_refusal.specs.declared.names.BareName.{BareName}
 use Rattle.vs_refusal.specs.declared.names.BareName.TheVariants.{Usage, TooLong, NoTop, NoClock}
 use Rattle.vs_refusal.specs.declared.names.AtName.{AtName}
-use Rattle.vs_refusal.specs.declared.names.AtName.TheVariants.{NoToken, OpenComment, BadLiteral, TooManyTokens, BadDirective, UnknownMacro, MacroLoop, MacroArguments, MacroLimit, LeftOut, Syntax, TooDeep, NotConstant, UnknownConstant, DuplicateModule, UnknownModule, UnknownName, DuplicateName, BadRange, PortCount, UnknownPort, InstanceDepth, TooManyInstances, GenerateTurns, WrongKind, TooManyBits, TooManyProcesses, LoopTurns, LoopVariable, FunctionRule, Recursion, TooWide, Division, MixedAssign, FunctionLatch}
+use Rattle.vs_refusal.specs.declared.names.AtName.TheVariants.{NoToken, OpenComment, BadLiteral, TooManyTokens, BadDirective, UnknownMacro, MacroLoop, MacroArguments, MacroLimit, LeftOut, Syntax, TooDeep, NotConstant, UnknownConstant, DuplicateModule, UnknownModule, UnknownName, DuplicateName, BadRange, PortCount, UnknownPort, InstanceDepth, TooManyInstances, GenerateTurns, WrongKind, TooManyBits, TooManyProcesses, LoopTurns, LoopVariable, FunctionRule, Recursion, TooWide, Division, MixedAssign, FunctionLatch, Delay}
 use Rattle.vs_refusal.specs.declared.names.ProcessName.{ProcessName}
 use Rattle.vs_refusal.specs.declared.names.ProcessName.TheVariants.{InitialForm, ClockRead, NotTheClock, TimeZero, ResetForm}
 use Rattle.vs_refusal.specs.declared.names.LaneName.{LaneName}
@@ -59,6 +59,7 @@ at_number TooWide = 50
 at_number Division = 51
 at_number MixedAssign = 54
 at_number FunctionLatch = 56
+at_number Delay = 58
 
 abbrev pub at_text : AtName → List ℕ
 at_text NoToken = codes "NoToken"
@@ -96,6 +97,7 @@ at_text TooWide = codes "TooWide"
 at_text Division = codes "Division"
 at_text MixedAssign = codes "MixedAssign"
 at_text FunctionLatch = codes "FunctionLatch"
+at_text Delay = codes "Delay"
 
 abbrev pub process_number : ProcessName → ℕ
 process_number InitialForm = 57

@@ -88,6 +88,8 @@ pub enum AtName {
     MixedAssign,
     /// A function leaves a variable that it writes unassigned on some path to a read of it or to its end (10.4).
     FunctionLatch,
+    /// A `<=` has a delay that is no less than half the clock's period (9.2.2).
+    Delay,
 }
 
 /// Refusals that carry a process and its place.
@@ -202,6 +204,7 @@ impl AtName {
             AtName::Division => 51,
             AtName::MixedAssign => 54,
             AtName::FunctionLatch => 56,
+            AtName::Delay => 58,
         }
     }
 
@@ -245,6 +248,7 @@ impl AtName {
             AtName::Division => "Division",
             AtName::MixedAssign => "MixedAssign",
             AtName::FunctionLatch => "FunctionLatch",
+            AtName::Delay => "Delay",
         }
     }
 }

@@ -1,7 +1,7 @@
 //! Text put on the report, at place 0 of a desk.
 ghost use Rattle.std.specs.Prelude.{decimal};
 ghost use Rattle.std.specs.List.{flat_map};
-ghost use Rattle.vs_desk.specs.Desk.{PutsAll};
+ghost use Rattle.vs_desk.specs.Desk.{PutsReport};
 ghost use Rattle.vs_refusal.specs.Refusals.{line, head_text, list_text, fields, field_text, numbers_text, more_numbers, next_number};
 ghost use Rattle.vs_refusal.specs.Endings.{ending_line};
 ghost use Rattle.vs_refusal.specs.Misses.{digits_text, miss_line};
@@ -14,14 +14,14 @@ use vs_desk::{Desk, Failed, put_all, put_law};
 
 /// Puts a text.
 fn put_text<D: Desk>(desk: &mut D, text: &str) -> Result<(), Failed>
-    ensures { PutsAll (D.told desk.old) (D.told desk.new) 0 text.now result }
+    ensures { PutsReport (D.told desk.old) (D.told desk.new) text.now result }
 {
     put_all(desk, 0, text.as_bytes())
 }
 
 /// Puts a number in decimal digits.
 fn put_number<D: Desk>(desk: &mut D, number: u64) -> Result<(), Failed>
-    ensures { PutsAll (D.told desk.old) (D.told desk.new) 0 (decimal number) result }
+    ensures { PutsReport (D.told desk.old) (D.told desk.new) (decimal number) result }
 {
     let mut buffer = Buffer::new();
     put_text(desk, buffer.format(number))
@@ -29,7 +29,7 @@ fn put_number<D: Desk>(desk: &mut D, number: u64) -> Result<(), Failed>
 
 /// Puts a field with one number.
 fn put_field<D: Desk>(desk: &mut D, field: Field) -> Result<(), Failed>
-    ensures { PutsAll (D.told desk.old) (D.told desk.new) 0 (field_text field) result }
+    ensures { PutsReport (D.told desk.old) (D.told desk.new) (field_text field) result }
 {
     put_law();
     put_text(desk, field.label.text())?;
@@ -38,7 +38,7 @@ fn put_field<D: Desk>(desk: &mut D, field: Field) -> Result<(), Failed>
 
 /// Puts numbers, each behind a comma.
 fn put_more_numbers<D: Desk>(desk: &mut D, numbers: &[u32]) -> Result<(), Failed>
-    ensures { PutsAll (D.told desk.old) (D.told desk.new) 0 (more_numbers numbers.now) result }
+    ensures { PutsReport (D.told desk.old) (D.told desk.new) (more_numbers numbers.now) result }
 {
     put_law();
     for number in numbers {
@@ -49,7 +49,7 @@ fn put_more_numbers<D: Desk>(desk: &mut D, numbers: &[u32]) -> Result<(), Failed
 
 /// Puts a comma and a number.
 fn put_next_number<D: Desk>(desk: &mut D, number: u32) -> Result<(), Failed>
-    ensures { PutsAll (D.told desk.old) (D.told desk.new) 0 (next_number number) result }
+    ensures { PutsReport (D.told desk.old) (D.told desk.new) (next_number number) result }
 {
     put_law();
     put_text(desk, ",")?;
@@ -58,7 +58,7 @@ fn put_next_number<D: Desk>(desk: &mut D, number: u32) -> Result<(), Failed>
 
 /// Puts numbers with commas between them.
 fn put_numbers<D: Desk>(desk: &mut D, numbers: &[u32]) -> Result<(), Failed>
-    ensures { PutsAll (D.told desk.old) (D.told desk.new) 0 (numbers_text numbers.now) result }
+    ensures { PutsReport (D.told desk.old) (D.told desk.new) (numbers_text numbers.now) result }
 {
     put_law();
     if numbers.is_empty() {
@@ -70,7 +70,7 @@ fn put_numbers<D: Desk>(desk: &mut D, numbers: &[u32]) -> Result<(), Failed>
 
 /// Puts the list that a refusal has, if it has one.
 fn put_list<D: Desk>(desk: &mut D, refusal: &Refusal) -> Result<(), Failed>
-    ensures { PutsAll (D.told desk.old) (D.told desk.new) 0 (list_text refusal.now) result }
+    ensures { PutsReport (D.told desk.old) (D.told desk.new) (list_text refusal.now) result }
 {
     put_law();
     match refusal {
@@ -84,7 +84,7 @@ fn put_list<D: Desk>(desk: &mut D, refusal: &Refusal) -> Result<(), Failed>
 
 /// Puts the fields with one number, in order.
 fn put_fields<D: Desk, F: Fields>(desk: &mut D, fielded: &F) -> Result<(), Failed>
-    ensures { PutsAll (D.told desk.old) (D.told desk.new) 0 (flat_map field_text (F.fields_of fielded.now)) result }
+    ensures { PutsReport (D.told desk.old) (D.told desk.new) (flat_map field_text (F.fields_of fielded.now)) result }
 {
     put_law();
     let mut n = 0;
@@ -97,7 +97,7 @@ fn put_fields<D: Desk, F: Fields>(desk: &mut D, fielded: &F) -> Result<(), Faile
 
 /// Puts a refusal's number and name.
 fn put_head<D: Desk>(desk: &mut D, refusal: &Refusal) -> Result<(), Failed>
-    ensures { PutsAll (D.told desk.old) (D.told desk.new) 0 (head_text refusal.now) result }
+    ensures { PutsReport (D.told desk.old) (D.told desk.new) (head_text refusal.now) result }
 {
     put_law();
     put_text(desk, "refused ")?;
@@ -108,7 +108,7 @@ fn put_head<D: Desk>(desk: &mut D, refusal: &Refusal) -> Result<(), Failed>
 
 /// Puts a refusal's whole line.
 fn put_whole<D: Desk>(desk: &mut D, refusal: &Refusal) -> Result<(), Failed>
-    ensures { PutsAll (D.told desk.old) (D.told desk.new) 0 (line refusal.now) result }
+    ensures { PutsReport (D.told desk.old) (D.told desk.new) (line refusal.now) result }
 {
     put_law();
     put_head(desk, refusal)?;
@@ -123,7 +123,7 @@ impl Refusal {
     ///
     /// On `Failed` some first bytes of the line were put, not all, and a call at place 0 failed.
     pub fn put_line<D: Desk>(&self, desk: &mut D) -> Result<(), Failed>
-        ensures { PutsAll (D.told desk.old) (D.told desk.new) 0 (line self.now) result }
+        ensures { PutsReport (D.told desk.old) (D.told desk.new) (line self.now) result }
     {
         put_whole(desk, self)
     }
@@ -131,7 +131,7 @@ impl Refusal {
 
 /// Puts the whole line of an ending.
 fn put_ending<D: Desk>(desk: &mut D, ending: &Ending) -> Result<(), Failed>
-    ensures { PutsAll (D.told desk.old) (D.told desk.new) 0 (ending_line ending.now) result }
+    ensures { PutsReport (D.told desk.old) (D.told desk.new) (ending_line ending.now) result }
 {
     put_law();
     put_text(desk, ending.text())?;
@@ -145,7 +145,7 @@ impl Ending {
     ///
     /// On `Failed` some first bytes of the line were put, not all, and a call at place 0 failed.
     pub fn put_line<D: Desk>(&self, desk: &mut D) -> Result<(), Failed>
-        ensures { PutsAll (D.told desk.old) (D.told desk.new) 0 (ending_line self.now) result }
+        ensures { PutsReport (D.told desk.old) (D.told desk.new) (ending_line self.now) result }
     {
         put_ending(desk, self)
     }
@@ -153,7 +153,7 @@ impl Ending {
 
 /// Puts the digits that are wanted, and those that the output has.
 fn put_digits<D: Desk>(desk: &mut D, wanted: &[u8], got: &[u8]) -> Result<(), Failed>
-    ensures { PutsAll (D.told desk.old) (D.told desk.new) 0 (digits_text wanted.now got.now) result }
+    ensures { PutsReport (D.told desk.old) (D.told desk.new) (digits_text wanted.now got.now) result }
 {
     put_law();
     put_text(desk, " wanted=")?;
@@ -164,7 +164,7 @@ fn put_digits<D: Desk>(desk: &mut D, wanted: &[u8], got: &[u8]) -> Result<(), Fa
 
 /// Puts the whole line of a miss.
 fn put_miss<D: Desk>(desk: &mut D, miss: &Miss<'_>) -> Result<(), Failed>
-    ensures { PutsAll (D.told desk.old) (D.told desk.new) 0 (miss_line miss.now.lane miss.now.line miss.now.output miss.now.wanted.now miss.now.got.now) result }
+    ensures { PutsReport (D.told desk.old) (D.told desk.new) (miss_line miss.now.lane miss.now.line miss.now.output miss.now.wanted.now miss.now.got.now) result }
 {
     put_law();
     put_text(desk, "missed")?;
@@ -179,7 +179,7 @@ impl Miss<'_> {
     ///
     /// On `Failed` some first bytes of the line were put, not all, and a call at place 0 failed.
     pub fn put_line<D: Desk>(&self, desk: &mut D) -> Result<(), Failed>
-        ensures { PutsAll (D.told desk.old) (D.told desk.new) 0 (miss_line self.now.lane self.now.line self.now.output self.now.wanted.now self.now.got.now) result }
+        ensures { PutsReport (D.told desk.old) (D.told desk.new) (miss_line self.now.lane self.now.line self.now.output self.now.wanted.now self.now.got.now) result }
     {
         put_miss(desk, self)
     }

@@ -203,7 +203,7 @@ shaped_scope (Some s) h = shaped_declarations s.variables h.variables
 mutual
   pub shaped_blocks : (s : tree.Statement) → IsStatement s → AreShapedLocals (spec.block_locals s)
   shaped_blocks (tree.Empty place) h = tt
-  shaped_blocks (tree.Assignment target e blocking) h = tt
+  shaped_blocks (tree.Assignment target e blocking delay) h = tt
   shaped_blocks (tree.If place c taken other) h = shaped_both (spec.block_locals taken) (spec.fallback_locals other) (shaped_blocks taken h.1) (shaped_fallback other h.2)
   shaped_blocks (tree.Case place kind subject arms other) h = shaped_both (spec.arms_locals arms) (spec.fallback_locals other) (shaped_arms arms h.1) (shaped_fallback other h.2)
   shaped_blocks (tree.Sequence place scope parts) h =

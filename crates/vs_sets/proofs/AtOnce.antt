@@ -16,8 +16,8 @@ right_nil (x ∷ xs) ys h = absurd (let z : ⊥ = cc in z)
 mutual
   blocking : (s : Statement) → mixed_in false s ≡ [] → at_once s ≡ s
   blocking Empty h = refl
-  blocking (Assignment place t e true) h = refl
-  blocking (Assignment place t e false) h = absurd (let z : ⊥ = cc in z)
+  blocking (Assignment place t e true delay) h = refl
+  blocking (Assignment place t e false delay) h = absurd (let z : ⊥ = cc in z)
   blocking (Then first rest) h = ap₂ Then (blocking first (left_nil _ (mixed_in false rest) h)) (blocking rest (right_nil (mixed_in false first) _ h))
   blocking (If c taken other) h = ap₂ (If c) (blocking taken (left_nil _ (mixed_in false other) h)) (blocking other (right_nil (mixed_in false taken) _ h))
   blocking (Case kind subject arms) h = ap (Case kind subject) (blocking_arms arms h)

@@ -68,12 +68,12 @@ module _ (d : Design) (tree : ℕ → E.Expression) (body : ℕ → T.Statement)
 pub tree_done : (complete : Bool) (a : Arena) (place : ℕ) (n : Statement)
     → (if complete then completed (design_of a) (statement_of_node a place n) else statement_of_node a place n) ≡ statement_tree (tree_of a) (done complete a) place (node_done complete a n)
 tree_done false a place S.Empty = refl
-tree_done false a place (S.Assign target e blocking) = refl
+tree_done false a place (S.Assign target e blocking delay) = refl
 tree_done false a place (S.If c taken other) = refl
 tree_done false a place (S.Case kind of arms other) = refl
 tree_done false a place (S.Seq parts) = refl
 tree_done true a place S.Empty = refl
-tree_done true a place (S.Assign target e blocking) = refl
+tree_done true a place (S.Assign target e blocking delay) = refl
 tree_done true a place (S.If c taken other) = ap {B = T.Statement} (T.If (tree_of a c) (completed (design_of a) (statement_of a taken))) (branch_done (design_of a) (tree_of a) (statement_of a) other)
 tree_done true a place (S.Case kind of arms other) = case_done (design_of a) (tree_of a) (statement_of a) kind (tree_of a of) other arms
 tree_done true a place (S.Seq parts) = sequence_done (design_of a) (tree_of a) (statement_of a) parts

@@ -38,7 +38,7 @@ within_parts n (E.Call header statement arguments) h = h
 
 pub within_statement : (n : ℕ) (s : T.Statement) → statement_within n s ≡ true → WithinStatement n s
 within_statement n T.Empty h = tt
-within_statement n (T.Assignment place target e blocking) h = (and_left (target_within n target) _ h, and_right (target_within n target) _ h)
+within_statement n (T.Assignment place target e blocking delay) h = (and_left (target_within n target) _ h, and_right (target_within n target) _ h)
 within_statement n (T.Then first rest) h = (and_left (statement_within n first) _ h, and_right (statement_within n first) _ h)
 within_statement n (T.If c taken other) h =
     (and_left _ _ (and_left (names_within n c && statement_within n taken) _ h), and_right (names_within n c) _ (and_left (names_within n c && statement_within n taken) _ h), and_right (names_within n c && statement_within n taken) _ h)

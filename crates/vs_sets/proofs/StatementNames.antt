@@ -49,7 +49,7 @@ arms_below nodes n (x ∷ arms) h i (suc k) arm e =
 
 names : (nodes n : ℕ) (s : Statement) → statement_names_below nodes n s ≡ true → HasStatementNames nodes n s
 names nodes n Empty h = tt
-names nodes n (Assign target e blocking) h = let k = all_below-each nodes (target ∷ e ∷ []) (and_left _ _ h) in (k 0 (omega arith), k 1 (omega arith))
+names nodes n (Assign target e blocking delay) h = let k = all_below-each nodes (target ∷ e ∷ []) (and_left _ _ h) in (k 0 (omega arith), k 1 (omega arith))
 names nodes n (If c taken other) h =
     let k = all_below-each nodes (c ∷ []) (and_left _ _ h) in
     let below = and_right (all_below nodes (c ∷ [])) _ h in
@@ -80,7 +80,7 @@ statement_tree_is law a s x lawful h =
     law a lawful.names s f.placed f.at ∙ ap (λ y. R.statement_tree (tree_of a) (statement_of a) f.placed.at y) f.is ∙ ap (λ p. statement_of_node a p x) (sym place)
 
 targets_at : StatementTargets → (a : A.Arena) (s : ℕ) (p : Placed Statement) → IsLawful a → slice_get a.statements s ≡ Some p → (x : Statement) → p.item ≡ x → HasTargets a x
-targets_at law a s p lawful h (Assign target e blocking) is = law a lawful s p.at target e blocking (h ∙ ap (λ y. Some (A.placed y p.at)) is)
+targets_at law a s p lawful h (Assign target e blocking delay) is = law a lawful s p.at target e blocking delay (h ∙ ap (λ y. Some (A.placed y p.at)) is)
 targets_at law a s p lawful h Empty is = tt
 targets_at law a s p lawful h (If c taken other) is = tt
 targets_at law a s p lawful h (Case kind of arms other) is = tt
@@ -91,7 +91,7 @@ statement_targets law a s x lawful h = let f = found_statement a s x h in target
 
 pub fit_statement : (s : T.Statement) → fits_statement s ≡ true → FitStatement s
 fit_statement T.Empty h = tt
-fit_statement (T.Assignment place target e blocking) h = (and_left _ _ h, and_right (fits_target target) _ h)
+fit_statement (T.Assignment place target e blocking delay) h = (and_left _ _ h, and_right (fits_target target) _ h)
 fit_statement (T.Then first rest) h = (and_left _ _ h, and_right (fits_statement first) _ h)
 fit_statement (T.If c taken other) h = (left3 (is_fit c) (fits_statement taken) (fits_statement other) h, middle3 (is_fit c) (fits_statement taken) (fits_statement other) h, and_right (is_fit c && fits_statement taken) (fits_statement other) h)
 fit_statement (T.Case kind subject arms) h = (and_left _ _ h, and_right (is_fit subject) _ h)

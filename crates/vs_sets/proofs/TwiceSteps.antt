@@ -48,7 +48,7 @@ two_lists xs ys b m n e f = list_any-append (λ c. b == c) xs ys ∙ ap₂ (λ p
 mutual
   pub writes_most : (s : Statement) (b : ℕ) → contains (statement_bits s) b ≡ nat_le 1 (most_writes s b)
   writes_most Empty b = refl
-  writes_most (Assignment place target e blocking) b = one_if (contains (target_bits target) b)
+  writes_most (Assignment place target e blocking delay) b = one_if (contains (target_bits target) b)
   writes_most (Then first rest) b = two_lists (statement_bits first) (statement_bits rest) b _ _ (writes_most first b) (writes_most rest b) ∙ sym (one_sum (most_writes first b) (most_writes rest b))
   writes_most (If c taken other) b = two_lists (statement_bits taken) (statement_bits other) b _ _ (writes_most taken b) (writes_most other b) ∙ sym (one_max (most_writes taken b) (most_writes other b))
   writes_most (Case kind subject arms) b = arms_written arms b
@@ -62,8 +62,8 @@ mutual
 pub empty_twice : (b : ℕ) → is_twice Empty b ≡ false
 empty_twice b = refl
 
-pub assignment_twice : (s : Statement) (place : ℕ) (target : Rattle.vs_design.specs.Statements.Target) (e : Expression) (blocking : Bool) → s ≡ Assignment place target e blocking → (b : ℕ) → is_twice s b ≡ false
-assignment_twice s place target e blocking is b = ap (λ x. is_twice x b) is ∙ two_if (contains (target_bits target) b)
+pub assignment_twice : (s : Statement) (place : ℕ) (target : Rattle.vs_design.specs.Statements.Target) (e : Expression) (blocking : Bool) (delay : ℕ) → s ≡ Assignment place target e blocking delay → (b : ℕ) → is_twice s b ≡ false
+assignment_twice s place target e blocking delay is b = ap (λ x. is_twice x b) is ∙ two_if (contains (target_bits target) b)
 
 pub if_twice : (c : Expression) (taken other : Statement) (b : ℕ) → (is_twice taken b || is_twice other b) ≡ is_twice (If c taken other) b
 if_twice c taken other b = sym (two_max (most_writes taken b) (most_writes other b))

@@ -97,7 +97,7 @@ arms_other ms f g h b p q = at (list_any is_only_one ms) (list_any (λ (m : Set4
 mutual
   pub body_other : (s : Statement) (f : Family) (b : ℕ) → contains (statement_bits s) b ≡ false → lifted_body (at_once s) f b ≡ f b
   body_other Empty f b h = refl
-  body_other (Assignment place t e blocking) f b h = write_other t (assigned_sets e (target_width t) f) f b h
+  body_other (Assignment place t e blocking delay) f b h = write_other t (assigned_sets e (target_width t) f) f b h
   body_other (Then first rest) f b h =
       body_other rest (lifted_body (at_once first) f) b (right_lacks (statement_bits first) (statement_bits rest) b h) ∙ body_other first f b (left_lacks (statement_bits first) (statement_bits rest) b h)
   body_other (If c taken other) f b h =

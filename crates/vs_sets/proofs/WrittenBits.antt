@@ -159,7 +159,7 @@ target_bits_within n (Both high low) b fit within h =
 mutual
   pub statement_bits_within : (n : ℕ) (s : Statement) (b : ℕ) → fits_statement s ≡ true → statement_within n s ≡ true → contains (statement_bits s) b ≡ true → b < n
   statement_bits_within n Empty b fit within h = absurd (let z : ⊥ = cc in z)
-  statement_bits_within n (Assignment place t e blocking) b fit within h = target_bits_within n t b (and_left (fits_target t) (is_fit e) fit) (and_left (target_within n t) (names_within n e) within) h
+  statement_bits_within n (Assignment place t e blocking delay) b fit within h = target_bits_within n t b (and_left (fits_target t) (is_fit e) fit) (and_left (target_within n t) (names_within n e) within) h
   statement_bits_within n (Then first rest) b fit within h =
       by_part (either_part (statement_bits first) (statement_bits rest) b h)
       (statement_bits_within n first b (and_left (fits_statement first) _ fit) (and_left (statement_within n first) _ within))

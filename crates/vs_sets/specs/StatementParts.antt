@@ -23,14 +23,14 @@ ArmsBelow nodes n arms = (k : ℕ) (arm : Arm) → slice_get arms k ≡ Some arm
 -- its expressions are there, and its statements earlier
 abbrev pub HasStatementNames : (nodes n : ℕ) → Statement → Type 0
 HasStatementNames nodes n Empty = Unit {0}
-HasStatementNames nodes n (Assign target e blocking) = (target < nodes) × (e < nodes)
+HasStatementNames nodes n (Assign target e blocking delay) = (target < nodes) × (e < nodes)
 HasStatementNames nodes n (If c taken other) = (c < nodes) × (taken < n) × BranchBelow n other
 HasStatementNames nodes n (Case kind of arms other) = (of < nodes) × ArmsBelow nodes n arms × BranchBelow n other
 HasStatementNames nodes n (Seq parts) = EachBelow n parts
 
 abbrev pub FitStatement : T.Statement → Type 0
 FitStatement T.Empty = Unit {0}
-FitStatement (T.Assignment place target e blocking) = (fits_target target ≡ true) × (is_fit e ≡ true)
+FitStatement (T.Assignment place target e blocking delay) = (fits_target target ≡ true) × (is_fit e ≡ true)
 FitStatement (T.Then first rest) = (fits_statement first ≡ true) × (fits_statement rest ≡ true)
 FitStatement (T.If c taken other) = (is_fit c ≡ true) × (fits_statement taken ≡ true) × (fits_statement other ≡ true)
 FitStatement (T.Case kind subject arms) = (is_fit subject ≡ true) × (fits_arms arms ≡ true)
@@ -68,12 +68,12 @@ EachRuns a count n bits parts = (k : ℕ) → k < length parts → BranchFacts a
 -- the parts of a statement that names bits among the first n alone name such bits too
 abbrev pub WithinStatement : ℕ → T.Statement → Type 0
 WithinStatement n T.Empty = Unit {0}
-WithinStatement n (T.Assignment place target e blocking) = (target_within n target ≡ true) × (names_within n e ≡ true)
+WithinStatement n (T.Assignment place target e blocking delay) = (target_within n target ≡ true) × (names_within n e ≡ true)
 WithinStatement n (T.Then first rest) = (statement_within n first ≡ true) × (statement_within n rest ≡ true)
 WithinStatement n (T.If c taken other) = (names_within n c ≡ true) × (statement_within n taken ≡ true) × (statement_within n other ≡ true)
 WithinStatement n (T.Case kind subject arms) = (names_within n subject ≡ true) × (arms_within n arms ≡ true)
 
 -- what an assignment writes is a target
 abbrev pub HasTargets : A.Arena → Statement → Type 0
-HasTargets a (Assign target e blocking) = target_of (tree_of a target) ≡ Some (R.target_tree (tree_of a target))
+HasTargets a (Assign target e blocking delay) = target_of (tree_of a target) ≡ Some (R.target_tree (tree_of a target))
 HasTargets a _ = Unit {0}

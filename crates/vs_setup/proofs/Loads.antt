@@ -25,15 +25,15 @@ pub clocks_told : (d : Design) (names : List (List ℕ)) (c : Clocked) (a : IsAc
 clocks_told d names c a h = ap clock_bits (some_is a.clocks h.signals (sym a.clocks_found ∙ h.are)) ∙ sym h.bits_are
 
 -- the outputs of a text that was read are those of its tree
-outputs_named : OneReading → {text : List ℕ} {top : Option (List ℕ)} {clocks : List (List ℕ)} {d : Design} (accepted : IsAcceptedText text top clocks d) (a : Acceptance) → HaveOutputs text top a → a.outputs ≡ top_outputs accepted.source top
+outputs_named : OneReading → {text : List ℕ} {top : Option (List ℕ)} {clocks : List (List ℕ)} {half : ℕ} {d : Design} (accepted : IsAcceptedText text top clocks half d) (a : Acceptance) → HaveOutputs text top a → a.outputs ≡ top_outputs accepted.source top
 outputs_named one {text = text} {top = top} accepted a h =
     h.outputs_are ∙ ap (λ (s : Source). top_outputs s top) (one text h.tokens accepted.tokens h.source accepted.source h.read accepted.read)
 
 -- the ports of an accepted text
-pub ports_named : (demanded : Bool) (text : List ℕ) (top : Option (List ℕ)) (clocks : List (List ℕ)) (a : Acceptance) (ports : PortLists) → OneReading → (accepted : IsAcceptedText text top clocks (design_of a.flat))
+pub ports_named : (demanded : Bool) (text : List ℕ) (top : Option (List ℕ)) (clocks : List (List ℕ)) (half : ℕ) (a : Acceptance) (ports : PortLists) → OneReading → (accepted : IsAcceptedText text top clocks half (design_of a.flat))
     → HaveOutputs text top a → IsAcceptance clocks a → ports.inputs ≡ inputs_among a.clocks.reset_inputs a.selects a.clocks.bits (design_of a.flat).signals
     → ports.outputs ≡ outputs_among a.outputs (design_of a.flat).signals → ports.demanded ≡ demanded → ports ≡ ports_with demanded accepted
-ports_named demanded text top clocks a ports one accepted have lent inputs_are outputs_are demanded_is = λ i. record { inputs = named i; outputs = outputs_is i; demanded = demanded_is i }
+ports_named demanded text top clocks half a ports one accepted have lent inputs_are outputs_are demanded_is = λ i. record { inputs = named i; outputs = outputs_is i; demanded = demanded_is i }
   where
     d : Design
     d = design_of a.flat
@@ -51,11 +51,11 @@ ports_named demanded text top clocks a ports one accepted have lent inputs_are o
     outputs_is : ports.outputs ≡ outputs d (top_outputs accepted.source top)
     outputs_is = outputs_are ∙ ap (λ (names : List (List ℕ)). outputs_among names d.signals) (outputs_named one accepted a have)
 
-pub loaded : (demanded : Bool) (text : List ℕ) (top : Option (List ℕ)) (clocks : List (List ℕ)) (a : Acceptance) (ports : PortLists)
-    → InputBitsFit → OneReading → (accepted : IsAcceptedText text top clocks (design_of a.flat)) → a.size ≡ told_size accepted.written → HaveOutputs text top a → IsAcceptance clocks a
+pub loaded : (demanded : Bool) (text : List ℕ) (top : Option (List ℕ)) (clocks : List (List ℕ)) (half : ℕ) (a : Acceptance) (ports : PortLists)
+    → InputBitsFit → OneReading → (accepted : IsAcceptedText text top clocks half (design_of a.flat)) → a.size ≡ told_size accepted.written → HaveOutputs text top a → IsAcceptance clocks a
     → ports.inputs ≡ inputs_among a.clocks.reset_inputs a.selects a.clocks.bits (design_of a.flat).signals → ports.outputs ≡ outputs_among a.outputs (design_of a.flat).signals
-    → ports.demanded ≡ demanded → IsLoaded demanded text top clocks a ports
-loaded demanded text top clocks a ports fit one accepted size_is have lent inputs_are outputs_are demanded_is = record {
+    → ports.demanded ≡ demanded → IsLoaded demanded text top clocks half a ports
+loaded demanded text top clocks half a ports fit one accepted size_is have lent inputs_are outputs_are demanded_is = record {
   accepted = accepted;
   size_is = size_is;
   lent = lent;
@@ -70,7 +70,7 @@ loaded demanded text top clocks a ports fit one accepted size_is have lent input
     d = design_of a.flat
 
     ports_is : ports ≡ ports_with demanded accepted
-    ports_is = ports_named demanded text top clocks a ports one accepted have lent inputs_are outputs_are demanded_is
+    ports_is = ports_named demanded text top clocks half a ports one accepted have lent inputs_are outputs_are demanded_is
 
     named : ports.inputs ≡ data_inputs d (clock_bits accepted.accepted.clocks)
     named = ap (λ (p : PortLists). p.inputs) ports_is

@@ -103,9 +103,9 @@ err_is Q (Ok a) e is h = tt
 err_is {A = A} Q (Err d) e is h = subst Q (err_same {A = A} d e is) h
 
 -- the error of a text that isn't accepted
-pub unaccepted : (bytes : ℕ) (text : List ℕ) (top : Option (List ℕ)) (clocks : List (List ℕ)) (e : AcceptError) → IsRefusalOf text top clocks e → IsLoadError bytes text top clocks (accept_error bytes e)
-unaccepted bytes text top clocks (A.Refused r) h = record { refusal = r; refused = h; told = refl }
-unaccepted bytes text top clocks A.Memory h = h
+pub unaccepted : (bytes : ℕ) (text : List ℕ) (top : Option (List ℕ)) (clocks : List (List ℕ)) (half : ℕ) (e : AcceptError) → IsRefusalOf text top clocks half e → IsLoadError bytes text top clocks half (accept_error bytes e)
+unaccepted bytes text top clocks half (A.Refused r) h = record { refusal = r; refused = h; told = refl }
+unaccepted bytes text top clocks half A.Memory h = h
 
 -- a text that was taken whole, and has at most as many bytes as it may
 pub record IsWhole (tells : Bool) (job : Job) (old new : Contents) (text : List ℕ) : Type 0 where
@@ -115,20 +115,20 @@ pub record IsWhole (tells : Bool) (job : Job) (old new : Contents) (text : List 
 
 -- it is loaded
 pub loaded_behind : (tells : Bool) (job : Job) (old : Contents) (text : List ℕ) (a : Acceptance) (ports : PortLists)
-    → IsBehind tells job.head (joined_files old.files job.design job.others) text → IsLoaded (demands job.mode) text job.top job.clocks a ports → IsDesignLoaded tells job old a ports
+    → IsBehind tells job.head (joined_files old.files job.design job.others) text → IsLoaded (demands job.mode) text job.top job.clocks job.half a ports → IsDesignLoaded tells job old a ports
 loaded_behind tells job old text a ports b l = record {
   file = b.taken;
   file_is = b.taken_is;
-  loaded = subst (λ (xs : List ℕ). IsLoaded (demands job.mode) xs job.top job.clocks a ports) b.text_is l;
+  loaded = subst (λ (xs : List ℕ). IsLoaded (demands job.mode) xs job.top job.clocks job.half a ports) b.text_is l;
 }
 
 -- it can't be loaded
 pub unloaded : {tells : Bool} (job : Job) (old new : Told tells) (text : List ℕ) (e : SetupError)
-    → IsLoadError (length job.head) text job.top job.clocks e → new.register ≡ with_design old.register job.design job.others → IsWhole tells job old.contents new.contents text → IsUnprepared job old new e
+    → IsLoadError (length job.head) text job.top job.clocks job.half e → new.register ≡ with_design old.register job.design job.others → IsWhole tells job old.contents new.contents text → IsUnprepared job old new e
 unloaded job old new text TooLong h at w = absurd h
 unloaded job old new text (Refused r) h at w =
     let b = w.behind in
-    let P : List ℕ → Type 0 = λ xs. IsRefusedBehind (length job.head) xs job.top job.clocks r in (
+    let P : List ℕ → Type 0 = λ xs. IsRefusedBehind (length job.head) xs job.top job.clocks job.half r in (
       at,
       (b.taken, subst P b.text_is h),
       λ t.
@@ -148,8 +148,8 @@ undesigned job old new (D.ReadFault place) h = inl h
 undesigned job old new D.Memory h = inl h
 
 -- an equal text is accepted as the same design
-with_text : (top : Option (List ℕ)) (clocks : List (List ℕ)) (d : Design) (text other : List ℕ) → text ≡ other → IsAcceptedText text top clocks d → IsAcceptedText other top clocks d
-with_text top clocks d text other e a = record {
+with_text : (top : Option (List ℕ)) (clocks : List (List ℕ)) (half : ℕ) (d : Design) (text other : List ℕ) → text ≡ other → IsAcceptedText text top clocks half d → IsAcceptedText other top clocks half d
+with_text top clocks half d text other e a = record {
   short = subst (λ (t : List ℕ). length t ≤ most_bytes) e a.short;
   tokens = a.tokens;
   source = a.source;
@@ -159,6 +159,7 @@ with_text top clocks d text other e a = record {
   kept = a.kept;
   left = a.left;
   accepted = a.accepted;
+  in_time = a.in_time;
 }
 
 -- a stimulus that can't be opened, behind a loaded design
@@ -170,7 +171,7 @@ unprepared {tells} job old mid new a ports l same e u = by_error e u
   where
     accepted : (t : IsTrue tells) → IsDesignOf job old.contents (design_of a.flat)
     accepted t =
-        with_text job.top job.clocks (design_of a.flat) (job.head ++ l.file) (design_text job old.contents) (ap (λ (file : List ℕ). job.head ++ file) (l.file_is t)) l.loaded.accepted
+        with_text job.top job.clocks job.half (design_of a.flat) (job.head ++ l.file) (design_text job old.contents) (ap (λ (file : List ℕ). job.head ++ file) (l.file_is t)) l.loaded.accepted
 
     ports_are : (t : IsTrue tells) → ports ≡ ports_of job.mode (accepted t)
     ports_are t = l.loaded.ports_are
@@ -208,8 +209,8 @@ unprepared {tells} job old mid new a ports l same e u = by_error e u
     by_error Memory u = inr u
 
 -- want of memory is told by its error alone
-pub memory_is : {V : Type 0} (text : List ℕ) (top : Option (List ℕ)) (clocks : List (List ℕ)) (r : Result V AcceptError) (e : AcceptError) → ◌≡◌ {A = Result V AcceptError} r (Err e) → e ≡ A.Memory → IfErr r (IsRefusalOf text top clocks)
-memory_is text top clocks r e is memory = err_is (IsRefusalOf text top clocks) r A.Memory (is ∙ ap Err memory) tt
+pub memory_is : {V : Type 0} (text : List ℕ) (top : Option (List ℕ)) (clocks : List (List ℕ)) (half : ℕ) (r : Result V AcceptError) (e : AcceptError) → ◌≡◌ {A = Result V AcceptError} r (Err e) → e ≡ A.Memory → IfErr r (IsRefusalOf text top clocks half)
+memory_is text top clocks half r e is memory = err_is (IsRefusalOf text top clocks half) r A.Memory (is ∙ ap Err memory) tt
 
 -- the stimuli's places stay free where those of the design's files are attached
 pub free_behind : OtherPlacesStay → (r : Register) (design : List ℕ) (files : List (List ℕ)) (lanes others : ℕ) → lanes ≤ most_lanes → IsFresh r lanes others → AreFree (with_design r design files) lanes
@@ -220,6 +221,6 @@ free_behind stay r design files lanes others few h = record {
       (h.stimuli i lt);
 }
 
-pub unloaded_memory : {V : Type 0} (bytes : ℕ) (text : List ℕ) (top : Option (List ℕ)) (clocks : List (List ℕ)) (r : Result V SetupError) (e : SetupError) → ◌≡◌ {A = Result V SetupError} r (Err e) → e ≡ Memory
-    → IfErr r (IsLoadError bytes text top clocks)
-unloaded_memory bytes text top clocks r e is memory = err_is (IsLoadError bytes text top clocks) r Memory (is ∙ ap Err memory) tt
+pub unloaded_memory : {V : Type 0} (bytes : ℕ) (text : List ℕ) (top : Option (List ℕ)) (clocks : List (List ℕ)) (half : ℕ) (r : Result V SetupError) (e : SetupError) → ◌≡◌ {A = Result V SetupError} r (Err e) → e ≡ Memory
+    → IfErr r (IsLoadError bytes text top clocks half)
+unloaded_memory bytes text top clocks half r e is memory = err_is (IsLoadError bytes text top clocks half) r Memory (is ∙ ap Err memory) tt

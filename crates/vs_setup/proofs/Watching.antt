@@ -25,17 +25,17 @@ use Rattle.vs_setup.proofs.Lanes.{HasLanes, HasEngine, program_is, bits_are, rea
 use Rattle.vs_setup.proofs.Signals.{are_inside}
 
 -- the outputs that are watched are those that stimuli name
-pub watches : OutputsHaveSpans → (text : List ℕ) (top : Option (List ℕ)) (clocks : List (List ℕ)) (a : Acceptance) (accepted : IsAcceptedText text top clocks (design_of a.flat)) → a.outputs ≡ top_outputs accepted.source top
+pub watches : OutputsHaveSpans → (text : List ℕ) (top : Option (List ℕ)) (clocks : List (List ℕ)) (half : ℕ) (a : Acceptance) (accepted : IsAcceptedText text top clocks half (design_of a.flat)) → a.outputs ≡ top_outputs accepted.source top
     → watched a ≡ output_spans (design_of a.flat) (outputs (design_of a.flat) (top_outputs accepted.source top))
-watches law text top clocks a accepted names_are =
+watches law text top clocks half a accepted names_are =
     let d = design_of a.flat in
     ap (λ (names : List (List ℕ)). map span_of (filter (is_output names) d.signals)) names_are ∙ sym (law d (top_outputs accepted.source top))
 
 -- they have the lengths of the ports' outputs
-watched_lengths : OutputsHaveSpans → SpansHaveLengths → (text : List ℕ) (top : Option (List ℕ)) (clocks : List (List ℕ)) (a : Acceptance) (accepted : IsAcceptedText text top clocks (design_of a.flat)) → a.outputs ≡ top_outputs accepted.source top
+watched_lengths : OutputsHaveSpans → SpansHaveLengths → (text : List ℕ) (top : Option (List ℕ)) (clocks : List (List ℕ)) (half : ℕ) (a : Acceptance) (accepted : IsAcceptedText text top clocks half (design_of a.flat)) → a.outputs ≡ top_outputs accepted.source top
     → (os : List Output) → os ≡ outputs (design_of a.flat) (top_outputs accepted.source top) → span_lengths (watched a) ≡ output_lengths os
-watched_lengths law lengths text top clocks a accepted names_are os is =
-    ap span_lengths (watches law text top clocks a accepted names_are) ∙ lengths (design_of a.flat) (top_outputs accepted.source top) ∙ sym (ap output_lengths is)
+watched_lengths law lengths text top clocks half a accepted names_are os is =
+    ap span_lengths (watches law text top clocks half a accepted names_are) ∙ lengths (design_of a.flat) (top_outputs accepted.source top) ∙ sym (ap output_lengths is)
 
 -- the stimuli want as many digits of each
 pub all_fit : (tells : Bool) (job : Job) (old mid new : Contents) (a : Acceptance) (ports : PortLists) (ks : List Known)
@@ -52,7 +52,7 @@ all_fit tells job old mid new a ports ks law lengths p = record {
 }
   where
     same : span_lengths (watched a) ≡ output_lengths ports.outputs
-    same = watched_lengths law lengths (job.head ++ p.loaded.file) job.top job.clocks a p.loaded.loaded.accepted p.loaded.loaded.names_are ports.outputs (ap (λ (is : PortLists). is.outputs) p.loaded.loaded.ports_are)
+    same = watched_lengths law lengths (job.head ++ p.loaded.file) job.top job.clocks job.half a p.loaded.loaded.accepted p.loaded.loaded.names_are ports.outputs (ap (λ (is : PortLists). is.outputs) p.loaded.loaded.ports_are)
 
 -- they are parts of a check
 pub are_parts : {W : Type 0} (lane : W → ℕ → Bool) (lanes : ℕ) (tells : Bool) (job : Job) (old mid new : Contents) (a : Acceptance) (ports : PortLists) (engine : Running W) (ks : List Known)
@@ -77,7 +77,7 @@ pub is_watched : {W : Type 0} (lane : W → ℕ → Bool) (lanes : ℕ) (tells :
     → OutputsHaveSpans → (p : HasWatch lane lanes tells job old mid new a ports m) → IsTrue tells → AreWatched lane (runs p.lanes_are.behind.loaded) m new
 is_watched lane lanes tells job old mid new a ports m law p t = record {
   program = program_is lane lanes tells job old mid new a ports m.engine m.stimuli p.lanes_are;
-  outputs = p.outputs_are ∙ watches law (job.head ++ p.lanes_are.behind.loaded.file) job.top job.clocks a p.lanes_are.behind.loaded.loaded.accepted p.lanes_are.behind.loaded.loaded.names_are;
+  outputs = p.outputs_are ∙ watches law (job.head ++ p.lanes_are.behind.loaded.file) job.top job.clocks job.half a p.lanes_are.behind.loaded.loaded.accepted p.lanes_are.behind.loaded.loaded.names_are;
   live = λ i h. (p.lanes_are.behind.opened.each i h).live;
   reading = reading_is tells job old mid new a ports m.stimuli p.lanes_are.behind t;
   read = has_given tells job old mid new a ports m.stimuli p.lanes_are.behind t;

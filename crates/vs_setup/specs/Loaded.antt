@@ -18,8 +18,8 @@ abbrev pub watched : Acceptance → List Span
 watched a = map span_of (filter (is_output a.outputs) (design_of a.flat).signals)
 
 -- The text is accepted as this design, and all that is lent belongs to it. Stimuli name its ports, and a header has to name outputs where this is demanded.
-pub record IsLoaded (demanded : Bool) (text : List ℕ) (top : Option (List ℕ)) (clocks : List (List ℕ)) (a : Acceptance) (ports : PortLists) : Type 0 where
-  pub accepted : IsAcceptedText text top clocks (design_of a.flat)
+pub record IsLoaded (demanded : Bool) (text : List ℕ) (top : Option (List ℕ)) (clocks : List (List ℕ)) (half : ℕ) (a : Acceptance) (ports : PortLists) : Type 0 where
+  pub accepted : IsAcceptedText text top clocks half (design_of a.flat)
   pub size_is : a.size ≡ told_size accepted.written
   pub lent : IsAcceptance clocks a
   -- what is told of the clocks is told of the inputs by which the text is accepted

@@ -33,7 +33,7 @@ pub record IsPrepared {W : Type 0} (lane : W → ℕ → Bool) {tells : Bool} (j
   pub file_is : IsTrue tells → file ≡ joined_files old.contents.files job.design job.others
   pub taken : IsTrue tells → AreTaken job new.contents
   pub design : Design
-  pub accepted : IsAcceptedText (job.head ++ file) job.top job.clocks design
+  pub accepted : IsAcceptedText (job.head ++ file) job.top job.clocks job.half design
   pub size_is : size ≡ told_size accepted.written
   pub program : IsProgramOf design (clock_bits accepted.accepted.clocks) m.engine.program
   -- no slot was run
@@ -58,7 +58,7 @@ pub record IsCheckPrepared {W : Type 0} (lane : W → ℕ → Bool) {tells : Boo
   pub file_is : IsTrue tells → file ≡ joined_files old.contents.files job.design job.others
   pub taken : IsTrue tells → AreTaken job new.contents
   pub design : Design
-  pub accepted : IsAcceptedText (job.head ++ file) job.top job.clocks design
+  pub accepted : IsAcceptedText (job.head ++ file) job.top job.clocks job.half design
   pub size_is : size ≡ told_size accepted.written
   pub program : IsProgramOf design (clock_bits accepted.accepted.clocks) m.engine.program
   -- no slot was run
@@ -78,7 +78,7 @@ pub record IsCheckPrepared {W : Type 0} (lane : W → ℕ → Bool) {tells : Boo
 pub record IsDesignLoaded (tells : Bool) (job : Job) (old : Contents) (a : Acceptance) (ports : PortLists) : Type 0 where
   pub file : List ℕ
   pub file_is : IsTrue tells → file ≡ joined_files old.files job.design job.others
-  pub loaded : IsLoaded (demands job.mode) (job.head ++ file) job.top job.clocks a ports
+  pub loaded : IsLoaded (demands job.mode) (job.head ++ file) job.top job.clocks job.half a ports
 
 -- what the job runs, where the files have these bytes
 abbrev pub runs : {tells : Bool} {job : Job} {old : Contents} {a : Acceptance} {ports : PortLists} → IsDesignLoaded tells job old a ports → Run

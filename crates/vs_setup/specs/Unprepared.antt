@@ -26,23 +26,23 @@ use Rattle.vs_setup.specs.Places.{with_texts}
 
 -- the design's files are accepted behind the head, as this design
 abbrev pub IsDesignOf : Job → Contents → Design → Type 0
-IsDesignOf job c d = IsAcceptedText (design_text job c) job.top job.clocks d
+IsDesignOf job c d = IsAcceptedText (design_text job c) job.top job.clocks job.half d
 
 -- The text is refused so, its places told behind this many bytes.
-pub record IsRefusedBehind (bytes : ℕ) (text : List ℕ) (top : Option (List ℕ)) (clocks : List (List ℕ)) (r : Refusal) : Type 0 where
+pub record IsRefusedBehind (bytes : ℕ) (text : List ℕ) (top : Option (List ℕ)) (clocks : List (List ℕ)) (half : ℕ) (r : Refusal) : Type 0 where
   pub refusal : Refusal
-  pub refused : IsRefusedText text top clocks refusal
+  pub refused : IsRefusedText text top clocks half refusal
   pub told : r ≡ behind bytes refusal
 
 -- The design's text has at most as many bytes as it may, all of its files were taken, and it is refused so, its places told behind the head.
 pub record IsDesignRefused (job : Job) (old new : Contents) (r : Refusal) : Type 0 where
   pub short : length (design_text job old) ≤ most_bytes
   pub taken : AreTaken job new
-  pub refused : IsRefusedBehind (length job.head) (design_text job old) job.top job.clocks r
+  pub refused : IsRefusedBehind (length job.head) (design_text job old) job.top job.clocks job.half r
 
 -- it is a refusal of some bytes behind the head, for the names of the job's top and clocks
 abbrev pub IsSomeRefusal : Job → Refusal → Type 0
-IsSomeRefusal job r = (file : List ℕ) × IsRefusedBehind (length job.head) (job.head ++ file) job.top job.clocks r
+IsSomeRefusal job r = (file : List ℕ) × IsRefusedBehind (length job.head) (job.head ++ file) job.top job.clocks job.half r
 
 -- the text of lane i's stimulus
 abbrev pub text_of : Contents → List (List ℕ) → ℕ → List ℕ
@@ -125,7 +125,7 @@ accept_error bytes (A.Refused r) = Refused (behind bytes r)
 accept_error bytes A.Memory = Memory
 
 -- a design's text can't be loaded, its places told behind this many bytes
-abbrev pub IsLoadError : (bytes : ℕ) (text : List ℕ) (top : Option (List ℕ)) (clocks : List (List ℕ)) → SetupError → Type 0
-IsLoadError bytes text top clocks (Refused r) = IsRefusedBehind bytes text top clocks r
-IsLoadError bytes text top clocks Memory = Unit {0}
-IsLoadError bytes text top clocks _ = ⊥
+abbrev pub IsLoadError : (bytes : ℕ) (text : List ℕ) (top : Option (List ℕ)) (clocks : List (List ℕ)) (half : ℕ) → SetupError → Type 0
+IsLoadError bytes text top clocks half (Refused r) = IsRefusedBehind bytes text top clocks half r
+IsLoadError bytes text top clocks half Memory = Unit {0}
+IsLoadError bytes text top clocks half _ = ⊥

@@ -35,7 +35,7 @@ pub struct Loaded {
 }
 
 /// Loads the design of a text of at most 4,194,304 bytes whose top module and whose clock inputs have these names; where no top is named it is the one module that no instance names,
-/// and where no clock is named there is none.
+/// and where no clock is named there is none. Half a period of the clocks has so many units of time.
 /// Where outputs are demanded, the header of a stimulus has to name one at least.
 /// Otherwise the text is refused, by the first rule that it breaks, or there is no memory.
 pub fn load(
@@ -43,15 +43,17 @@ pub fn load(
     text: &[u8],
     top: Option<&[u8]>,
     clocks: &[&[u8]],
+    half: u32,
     demanded: bool,
 ) -> Result<Loaded, AcceptError>
-    requires { length text.now ≤ most_bytes }
-    ensures loaded { IfOk result (λ l. IsLoaded demanded text.now (option_map (λ t. t.now) top.entry) (map (λ c. c.now) clocks.now) l.accepted l.ports) }
-    ensures refused { IfErr result (IsRefusalOf text.now (option_map (λ t. t.now) top.entry) (map (λ c. c.now) clocks.now)) }
+    requires text { length text.now ≤ most_bytes }
+    requires half { 1 ≤ half }
+    ensures loaded { IfOk result (λ l. IsLoaded demanded text.now (option_map (λ t. t.now) top.entry) (map (λ c. c.now) clocks.now) half l.accepted l.ports) }
+    ensures refused { IfErr result (IsRefusalOf text.now (option_map (λ t. t.now) top.entry) (map (λ c. c.now) clocks.now) half) }
 {
     inputs_law();
     answer_law();
-    let accepted = accept(alloc, text, top, clocks)?;
+    let accepted = accept(alloc, text, top, clocks, half)?;
     let ports = ports_of(alloc, &accepted, demanded)?;
     Ok(Loaded { accepted, ports })
 }
@@ -97,20 +99,22 @@ fn ports_of(alloc: Global, accepted: &Accepted, demanded: bool) -> Result<Ports,
 }
 
 /// The data inputs and the outputs of the design of a text of at most 4,194,304 bytes whose top module and whose clock inputs have these names, as stimuli name them: with the text
-/// accepted, and nothing compiled. Where no top is named it is the one module that no instance names, and where no clock is named there is none. Where outputs are demanded, the
-/// header of a stimulus has to name one at least. None where the text is refused. The only error is that memory ran out.
+/// accepted, and nothing compiled. Where no top is named it is the one module that no instance names, and where no clock is named there is none. Half a period of the clocks has so
+/// many units of time. Where outputs are demanded, the header of a stimulus has to name one at least. None where the text is refused. The only error is that memory ran out.
 pub fn read_ports(
     alloc: Global,
     text: &[u8],
     top: Option<&[u8]>,
     clocks: &[&[u8]],
+    half: u32,
     demanded: bool,
 ) -> Result<Option<Ports>, AllocError>
-    requires { length text.now ≤ most_bytes }
-    ensures { IfOk result (TellsPorts demanded text.now (option_map (λ t. t.now) top.entry) (map (λ c. c.now) clocks.now)) }
+    requires text { length text.now ≤ most_bytes }
+    requires half { 1 ≤ half }
+    ensures { IfOk result (TellsPorts demanded text.now (option_map (λ t. t.now) top.entry) (map (λ c. c.now) clocks.now) half) }
 {
     answer_law();
-    match accept(alloc, text, top, clocks) {
+    match accept(alloc, text, top, clocks, half) {
         Ok(accepted) => Ok(Some(ports_of(alloc, &accepted, demanded)?)),
         Err(AcceptError::Refused(_)) => Ok(None),
         Err(AcceptError::Memory) => Err(AllocError),

@@ -99,6 +99,7 @@ fn read_and_load<D: Desk>(alloc: Global, job: &Job, desk: &mut D) -> Result<Load
     requires free { AreFilesFree (D.told desk.old).register (length job.now.others) }
     requires head { length job.now.head ≤ most_head }
     requires together { length job.now.others ≤ most_others }
+    requires half { 1 ≤ job.now.half }
     ensures loaded { IfOk result (λ l. IsDesignLoaded D.tells job.now (D.told desk.old).contents l.accepted l.ports) }
     ensures register { OnOk result ((D.told desk.new).register ≡ with_design (D.told desk.old).register job.now.design job.now.others) }
     ensures unprepared { IfErr result (IsUnprepared job.now (D.told desk.old) (D.told desk.new)) }
@@ -113,12 +114,20 @@ fn read_and_load<D: Desk>(alloc: Global, job: &Job, desk: &mut D) -> Result<Load
 fn load_text(alloc: Global, job: &Job, text: &[u8]) -> Result<Loaded, SetupError>
     requires text { length text.now ≤ most_bytes }
     requires head { length job.now.head ≤ most_head }
-    ensures loaded { IfOk result (λ l. IsLoaded (demands job.now.mode) text.now job.now.top job.now.clocks l.accepted l.ports) }
-    ensures refused { IfErr result (IsLoadError (length job.now.head) text.now job.now.top job.now.clocks) }
+    requires half { 1 ≤ job.now.half }
+    ensures loaded { IfOk result (λ l. IsLoaded (demands job.now.mode) text.now job.now.top job.now.clocks job.now.half l.accepted l.ports) }
+    ensures refused { IfErr result (IsLoadError (length job.now.head) text.now job.now.top job.now.clocks job.now.half) }
 {
     let demanded = demands(job.mode);
     let names = job.clock_names(alloc)?;
-    match load(alloc, text, job.top_bytes(), names.as_slice(), demanded) {
+    match load(
+        alloc,
+        text,
+        job.top_bytes(),
+        names.as_slice(),
+        job.half,
+        demanded,
+    ) {
         Ok(loaded) => Ok(loaded),
         Err(error) => Err(SetupError::unaccepted(error, job.head.as_bytes().len() as u32)),
     }

@@ -39,7 +39,7 @@ other_below s (Some n) h = first_below s n [] h
 
 pub has_body_names : (nodes s : ℕ) (b : Statement) → statement_names_below nodes s b ≡ true → HasBodyNames nodes s b
 has_body_names nodes s S.Empty h = tt
-has_body_names nodes s (S.Assign target e blocking) h =
+has_body_names nodes s (S.Assign target e blocking delay) h =
     let p = (and_both (all_below nodes (target ∷ e ∷ [])) true h).0 in
     (first_below nodes target (e ∷ []) p, first_below nodes e [] (rest_below nodes target (e ∷ []) p))
 has_body_names nodes s (S.If c taken other) h =
@@ -65,18 +65,18 @@ names_of_statement law a lawful s b at = found (slice_get a.statements s) refl a
 
 pub target_of_statement : StatementTargets → (a : Arena) → IsLawful a → (s : ℕ) (b : Statement) → statement_at a s ≡ Some b → HasTarget a b
 target_of_statement law a lawful s S.Empty at = tt
-target_of_statement law a lawful s (S.Assign target e blocking) at = found (slice_get a.statements s) refl at
+target_of_statement law a lawful s (S.Assign target e blocking delay) at = found (slice_get a.statements s) refl at
   where
     is_there : (o : Option Target) (d : Target) → o ≡ Some d → is_some o ≡ true
     is_there None d h = cc
     is_there (Some t) d h = refl
 
-    found : (o : Option (Placed Statement)) → slice_get a.statements s ≡ o → option_map (λ (m : Placed Statement). m.item) o ≡ Some (S.Assign target e blocking) → is_some (target_of (tree_of a target)) ≡ true
+    found : (o : Option (Placed Statement)) → slice_get a.statements s ≡ o → option_map (λ (m : Placed Statement). m.item) o ≡ Some (S.Assign target e blocking delay) → is_some (target_of (tree_of a target)) ≡ true
     found None is h = cc
     found (Some m) is h =
-        is_there (target_of (tree_of a target)) (target_tree (tree_of a target)) (law a lawful s m.at target e blocking (is ∙ ap (λ b. Some (placed b m.at)) (item m h)))
+        is_there (target_of (tree_of a target)) (target_tree (tree_of a target)) (law a lawful s m.at target e blocking delay (is ∙ ap (λ b. Some (placed b m.at)) (item m h)))
       where
-        item : (m : Placed Statement) → Some m.item ≡ Some (S.Assign target e blocking) → m.item ≡ S.Assign target e blocking
+        item : (m : Placed Statement) → Some m.item ≡ Some (S.Assign target e blocking delay) → m.item ≡ S.Assign target e blocking delay
         item m h = cc
 target_of_statement law a lawful s (S.If c taken other) at = tt
 target_of_statement law a lawful s (S.Case kind of arms other) at = tt

@@ -20,12 +20,12 @@ use Rattle.vs_shape.specs.Gathered.{walked_expression, walked_target, walked_ite
 use Rattle.vs_shape.proofs.Names.{and_both}
 use Rattle.vs_shape.proofs.Gathering.{signals_bits-append}
 
-pub walked_assignment : (w : Walk) (place : ℕ) (t : T.Target) (e : E.Expression) (b : Bool) → walked_statement w (T.Assignment place t e b) ≡ walked_target w b t ++ walked_expression w e
-walked_assignment W.Writes place t e b = sym (append-nil (target_bits t))
-walked_assignment W.Blocking place t e b = sym (append-nil (walked_target W.Blocking b t))
-walked_assignment W.Nonblocking place t e b = sym (append-nil (walked_target W.Nonblocking b t))
-walked_assignment W.Reads place t e b = refl
-walked_assignment W.Signals place t e b = signals_bits-append (target_signals t) (read_signals e)
+pub walked_assignment : (w : Walk) (place : ℕ) (t : T.Target) (e : E.Expression) (b : Bool) (delay : ℕ) → walked_statement w (T.Assignment place t e b delay) ≡ walked_target w b t ++ walked_expression w e
+walked_assignment W.Writes place t e b delay = sym (append-nil (target_bits t))
+walked_assignment W.Blocking place t e b delay = sym (append-nil (walked_target W.Blocking b t))
+walked_assignment W.Nonblocking place t e b delay = sym (append-nil (walked_target W.Nonblocking b t))
+walked_assignment W.Reads place t e b delay = refl
+walked_assignment W.Signals place t e b delay = signals_bits-append (target_signals t) (read_signals e)
 
 pub walked_if : (w : Walk) (c : E.Expression) (s t : T.Statement) → walked_statement w (T.If c s t) ≡ walked_expression w c ++ (walked_statement w s ++ walked_statement w t)
 walked_if W.Writes c s t = refl

@@ -26,7 +26,7 @@ EachArmNames nodes s arms = (k : ℕ) (arm : Arm) → slice_get arms k ≡ Some 
 -- its expressions are among these many, and its statements have numbers below this
 abbrev pub HasBodyNames : (nodes s : ℕ) → Statement → Type 0
 HasBodyNames nodes s S.Empty = Unit {0}
-HasBodyNames nodes s (S.Assign target e blocking) = (target < nodes) × (e < nodes)
+HasBodyNames nodes s (S.Assign target e blocking delay) = (target < nodes) × (e < nodes)
 HasBodyNames nodes s (S.If c taken other) = (c < nodes) × (taken < s) × OtherBelow s other
 HasBodyNames nodes s (S.Case kind of arms other) = (of < nodes) × EachArmNames nodes s arms × OtherBelow s other
 HasBodyNames nodes s (S.Seq parts) = EachBelow s parts
@@ -43,5 +43,5 @@ body_of_statement a place s = statement_tree (tree_of a) (body_of a) place s
 
 -- what an assignment writes is a target (table 6-1)
 abbrev pub HasTarget : Arena → Statement → Type 0
-HasTarget a (S.Assign target e blocking) = is_some (target_of (tree_of a target)) ≡ true
+HasTarget a (S.Assign target e blocking delay) = is_some (target_of (tree_of a target)) ≡ true
 HasTarget a _ = Unit {0}

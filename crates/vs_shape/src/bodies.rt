@@ -100,6 +100,7 @@ impl Shapes {
                 target,
                 expr,
                 blocking,
+                ..
             } => {
                 self.push_in_target(*target, *blocking, walk, out)?;
                 self.push_in_expression(*expr, walk, out)

@@ -119,5 +119,5 @@ select_made b u e (both c (latter z)) q m = ap2 (tail.bit_or_word u.place) q m
 
 -- ---- assignments
 
-pub assignment_made : (b : ℕ → List ℕ) (x : D (r rule.Target)) (w : D tail.right_side) {target : Target} {side : Bool × Expr} → meaning.target_of b x ≡ target → tail.right_side_of b w ≡ side → part.assignment_tree b (both x w) ≡ tree.Assignment target side.1 side.0
-assignment_made b x (both o (both e z)) p m = ap2 (λ v (s : Bool × Expr). tree.Assignment v s.1 s.0) p m
+pub assignment_made : (b : ℕ → List ℕ) (x : D (r rule.Target)) (w : D tail.right_side) {target : Target} {side : Bool × Option Expr × Expr} → meaning.target_of b x ≡ target → tail.right_side_of b w ≡ side → part.assignment_tree b (both x w) ≡ tree.Assignment target side.2 side.0 side.1
+assignment_made b x (both o (both e z)) p m = ap2 (λ v (s : Bool × Option Expr × Expr). tree.Assignment v s.2 s.0 s.1) p m

@@ -1,5 +1,5 @@
 -- Tokens out of several.
-use Rattle.std.proofs.Common.{◌≡◌, ℕ, Bool, true, false, List, [], ◌∷◌, refl, sym, subst, ◌+◌, ◌<◌, length, inl, inr}
+use Rattle.std.proofs.Common.{◌≡◌, ℕ, false, List, [], ◌∷◌, refl, sym, subst, ◌+◌, ◌<◌, length, inl, inr}
 use Rattle.std.specs.Prelude.{Option, Some, None, MatchOption}
 use Rattle.vs_lexer.specs.declared.token.Token.{Token}
 use Rattle.vs_lexer.specs.declared.token.TokenKind.TheVariants as kind
@@ -19,9 +19,6 @@ use Rattle.vs_statements.specs.Reading.{kind_at, IsBeside, Picked, Chosen}
 use Rattle.vs_statements.proofs.Places.{known}
 use Rattle.vs_statements.proofs.Tables.{chosen_tok, chosen_former, chosen_latter}
 use Rattle.vs_grammar.specs.Verilog as grammar
-
-abbrev same : Bool → Bool
-same b = b
 
 -- what an answer says, from what another answer says
 pub option_more : {A : Type 0} {P Q : A → Type 0} (N : Type 0) (r : Option A) → MatchOption r N P → ((y : A) → P y → Q y) → MatchOption r N Q
@@ -51,9 +48,3 @@ case_beside ts i p j n h b = elim b [ inl q ↦ subst (λ z. Chosen ts (part.cas
 
 pub case_picked : {ts : List Token} {i : ℕ} {p : CaseKind} {j : ℕ} → Picked ts ((kind.KeywordCase, case.Exact) ∷ (kind.KeywordCasez, case.CaseZ) ∷ (kind.KeywordCasex, case.CaseX) ∷ []) i p j → Chosen ts (part.case_word) meaning.case_kind i p j
 case_picked {ts} {i} {p} {j} w = case_beside ts i p j w.next w.inside w.beside
-
-assignment_beside : (ts : List Token) (i : ℕ) (p : Bool) (j : ℕ) → j ≡ i + 1 → i < length ts → IsBeside (kind_at ts i) p ((kind.Assign, true) ∷ (kind.LessEqual, false) ∷ []) → Chosen ts (part.assignment_sign) meaning.is_blocking i (same p) j
-assignment_beside ts i p j n h b = elim b [ inl q ↦ subst (λ z. Chosen ts (part.assignment_sign) meaning.is_blocking i (same z) j) (sym q.1) (let e = q.0 in (chosen_former meaning.is_blocking (λ a. refl) (chosen_tok 51 e h n))) | inr b ↦ elim b [ inl q ↦ subst (λ z. Chosen ts (part.assignment_sign) meaning.is_blocking i (same z) j) (sym q.1) (let e = q.0 in (chosen_latter meaning.is_blocking (λ a. refl) (known ts i 70 (51 ∷ []) false e refl) (chosen_tok 70 e h n))) | inr b ↦ absurd b ] ]
-
-pub assignment_picked : {ts : List Token} {i : ℕ} {p : Bool} {j : ℕ} → Picked ts ((kind.Assign, true) ∷ (kind.LessEqual, false) ∷ []) i p j → Chosen ts (part.assignment_sign) meaning.is_blocking i (same p) j
-assignment_picked {ts} {i} {p} {j} w = assignment_beside ts i p j w.next w.inside w.beside

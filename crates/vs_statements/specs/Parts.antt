@@ -1,5 +1,5 @@
 -- Parts of rules that are read alone, and what each stands for.
-use Rattle.std.specs.Prelude.{ℕ, List, [], ◌∷◌, map}
+use Rattle.std.specs.Prelude.{ℕ, Bool, List, [], ◌∷◌, map, Option}
 use Rattle.vs_lexer.specs.declared.token.TokenKind.TheVariants as kind
 use Rattle.vs_grammar.specs.Grammars.{Phrase}
 use Rattle.vs_grammar.specs.Grammars.Phrase.{last, level}
@@ -9,7 +9,8 @@ use Rattle.vs_grammar.specs.Verilog.{◌⨾◌, ◌∣◌, t, r, separated}
 use Rattle.vs_grammar.specs.Verilog as grammar
 use Rattle.vs_grammar.specs.Verilog.{Rule as rule}
 use Rattle.vs_grammar.specs.Trees.{Expr, Target, Statement, CaseArms, Fallback}
-use Rattle.vs_grammar.specs.Meaning.{D, primary_of, target_of, statement_of, list_of, expr_of, arms_of, default_of}
+use Rattle.vs_grammar.specs.Meaning.{D, primary_of, target_of, statement_of, list_of, expr_of, arms_of, default_of, is_blocking, delay_of, delay_value_of, option_of, behind_sign}
+use Rattle.vs_ast.specs.declared.expressions.Expr.{Expr as ExprNode}
 use Rattle.vs_ast.specs.declared.statements.CaseArm.{CaseArm}
 use Rattle.vs_ast.specs.Views as view
 use Rattle.vs_statements.specs.declared.statements.CaseParts.{CaseParts}
@@ -81,11 +82,22 @@ sequence_tree b d = statement_of b (named (nested (latter (latter (latter (forme
 abbrev pub loop_tree : (ℕ → List ℕ) → D grammar.loop → Statement
 loop_tree b d = statement_of b (named (nested (latter (latter (latter (latter (former d)))))))
 
-abbrev pub assignment_sign : Phrase
-assignment_sign = t kind.Assign ∣ t kind.LessEqual
+-- a delay in brackets
+abbrev pub delay_brackets : Phrase
+delay_brackets = t kind.OpenParen ⨾ r rule.Expression ⨾ t kind.CloseParen
 
-abbrev pub assignment_kinds : List ℕ
-assignment_kinds = numbers_of (kind.Assign ∷ kind.LessEqual ∷ [])
+abbrev pub delay_brackets_tree : (ℕ → List ℕ) → D delay_brackets → Expr
+delay_brackets_tree b d = delay_value_of b (latter (latter d))
+
+abbrev pub optional_delay_of : (ℕ → List ℕ) → D grammar.delay → Option Expr
+optional_delay_of b d = option_of (behind_sign (delay_value_of b)) d
+
+-- whether an assignment is blocking, and its delay
+abbrev pub sign_of : (ℕ → List ℕ) → D grammar.assignment_sign → Bool × Option Expr
+sign_of b s = (is_blocking s, delay_of b s)
+
+abbrev pub sign_view : Bool × Option ExprNode → Bool × Option Expr
+sign_view p = (p.0, view.option view.expr p.1)
 
 abbrev pub assignment_tree : (ℕ → List ℕ) → D grammar.assigned → Statement
 assignment_tree b d = statement_of b (named (nested (latter (latter (latter (latter (latter d)))))))

@@ -3,13 +3,12 @@ use Rattle.std.specs.Prelude.{ℕ, Bool, List, Option, Some, None}
 use Rattle.vs_lexer.specs.declared.token.TokenKind.TheVariants as kind
 use Rattle.vs_grammar.specs.Grammars.{Phrase, opt}
 use Rattle.vs_grammar.specs.Grammars.Tree.{both}
-use Rattle.vs_grammar.specs.Verilog.{◌⨾◌, t, r, separated}
+use Rattle.vs_grammar.specs.Verilog.{◌⨾◌, t, r, separated, assignment_sign}
 use Rattle.vs_grammar.specs.Verilog.{Rule as rule}
 use Rattle.vs_grammar.specs.Trees.{Expr, Select, BitAt, OfWord}
-use Rattle.vs_grammar.specs.Meaning.{D, list_of, option_of, expr_of, part_of, is_blocking}
+use Rattle.vs_grammar.specs.Meaning.{D, list_of, option_of, expr_of, part_of, is_blocking, delay_of}
 use Rattle.vs_ast.specs.declared.expressions.Expr.{Expr as ExprNode}
 use Rattle.vs_ast.specs.Views as view
-use Rattle.vs_statements.specs.Parts.{assignment_sign}
 
 -- what a choice is between, behind its condition
 abbrev pub choice : Phrase
@@ -40,12 +39,12 @@ repeated = t kind.OpenBrace ⨾ separated (r rule.Expression) ⨾ t kind.CloseBr
 abbrev pub repeated_of : (ℕ → List ℕ) → D repeated → List Expr
 repeated_of b (both o (both l z)) = list_of (expr_of b) l
 
--- whether an assignment is blocking, and what is assigned, behind its target
+-- whether an assignment is blocking, its delay, and what is assigned, behind its target
 abbrev pub right_side : Phrase
 right_side = assignment_sign ⨾ r rule.Expression ⨾ t kind.Semicolon
 
-abbrev pub right_side_of : (ℕ → List ℕ) → D right_side → Bool × Expr
-right_side_of b (both s (both e z)) = (is_blocking s, expr_of b e)
+abbrev pub right_side_of : (ℕ → List ℕ) → D right_side → Bool × Option Expr × Expr
+right_side_of b (both s (both e z)) = (is_blocking s, delay_of b s, expr_of b e)
 
-abbrev pub right_side_view : Bool × ExprNode → Bool × Expr
-right_side_view p = (p.0, view.expr p.1)
+abbrev pub right_side_view : Bool × Option ExprNode × ExprNode → Bool × Option Expr × Expr
+right_side_view p = (p.0, view.option view.expr p.1, view.expr p.2)

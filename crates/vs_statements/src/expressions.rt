@@ -193,7 +193,7 @@ fn primary(input: &Input<'_>, at: u32, depth: Depth) -> Result<Nested<Expr>, Par
 }
 
 /// Whether a number stands here.
-fn is_number_at(input: &Input<'_>, at: u32) -> bool
+pub fn is_number_at(input: &Input<'_>, at: u32) -> bool
     ensures { result ≡ is_member (kind_at input.now.tokens.now at) part.number_kinds }
 {
     stands_any(input, at, &[TokenKind::Decimal, TokenKind::Based])

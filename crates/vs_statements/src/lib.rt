@@ -2,6 +2,7 @@
 #![tactic(auto)]
 
 pub mod commas;
+mod delays;
 pub mod depth;
 mod error;
 pub mod expressions;

@@ -13,6 +13,7 @@ ghost use Rattle.vs_statements.specs.Tails as tail;
 ghost use Rattle.vs_statements.specs.Reading.{Answers, Chosen, kind_at};
 
 use crate::commas::{Part, comma_list};
+use crate::delays::assignment_sign;
 use crate::depth::Depth;
 use crate::error::ParseError;
 use crate::expressions::{expression, expressions, is_expression_at, select};
@@ -44,24 +45,11 @@ const CASE_KINDS: [(TokenKind, CaseKind); 3] = [
     (TokenKind::KeywordCasex, CaseKind::CaseX),
 ];
 
-/// The signs of an assignment, and whether it is blocking.
-const ASSIGNMENT_SIGNS: [(TokenKind, bool); 2] = [
-    (TokenKind::Assign, true),
-    (TokenKind::LessEqual, false),
-];
-
 /// The word that a case begins with, if one stands here.
 fn case_word(input: &Input<'_>, at: u32) -> Option<Found<CaseKind>>
     ensures { MatchOption result (is_member (kind_at input.now.tokens.now at) part.case_kinds ≡ false) (λ f. Chosen input.now.tokens.now part.case_word meaning.case_kind at f.value f.to) }
 {
     choose(input, at, &CASE_KINDS)
-}
-
-/// The sign of an assignment, if one stands here.
-fn assignment_sign(input: &Input<'_>, at: u32) -> Option<Found<bool>>
-    ensures { MatchOption result (is_member (kind_at input.now.tokens.now at) part.assignment_kinds ≡ false) (λ f. Chosen input.now.tokens.now part.assignment_sign meaning.is_blocking at f.value f.to) }
-{
-    choose(input, at, &ASSIGNMENT_SIGNS)
 }
 
 /// Whether a statement begins here.
@@ -268,11 +256,12 @@ fn assignment(input: &Input<'_>, at: u32, depth: Depth) -> Result<Found<Statemen
     let target = target(input, at, depth)?;
     let right = right_side(input, target.to, depth);
     let (target, right) = both(target, right)?;
-    let (blocking, source) = right.value;
+    let (blocking, delay, source) = right.value;
     let value = Statement::Assignment {
         target: target.value,
         value: source,
         blocking,
+        delay,
     };
     Ok(Found {
         value,
@@ -280,18 +269,23 @@ fn assignment(input: &Input<'_>, at: u32, depth: Depth) -> Result<Found<Statemen
     })
 }
 
-/// The sign of an assignment, and what is assigned: whether it is blocking, and the value.
-fn right_side(input: &Input<'_>, at: u32, depth: Depth) -> Result<Found<(bool, Expr)>, ParseError>
+/// The sign of an assignment, and what is assigned: whether it is blocking, its delay, and the value.
+fn right_side(
+    input: &Input<'_>,
+    at: u32,
+    depth: Depth,
+) -> Result<Found<(bool, Option<Expr>, Expr)>, ParseError>
     ensures { Answers input.now tail.right_side tail.right_side_of tail.right_side_view depth at result }
 {
-    let Some(sign) = assignment_sign(input, at) else {
-        return Err(ParseError::Syntax(at));
-    };
-    let source = expression(input, sign.to, depth)?;
+    let sign = assignment_sign(input, at, depth)?;
+    let source = expression(input, sign.to, depth);
+    let (sign, source) = both(sign, source)?;
     let end = take(input, source.to, TokenKind::Semicolon);
-    let (source, end) = both(source, end)?;
+    let (parts, end) = both((sign.value, source.value), end)?;
+    let (sign, source) = parts;
+    let (blocking, delay) = sign;
     Ok(Found {
-        value: (sign.value, source.value),
+        value: (blocking, delay, source),
         to: end,
     })
 }

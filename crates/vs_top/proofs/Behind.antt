@@ -17,8 +17,8 @@ alike_behind : (n : ℕ) (r q : Refusal) → AreAlike r q → AreAlike (behind n
 alike_behind n r q (inl e) = inl (ap (behind n) e)
 alike_behind n r q (inr o) = inr (open_behind n r q o)
 
-pub told_alike : (n : ℕ) (text : List ℕ) (top : Option (List ℕ)) (clocks : List (List ℕ)) (r q : Refusal) (t : IsRefusedBehind n text top clocks r) (u : IsRefusedBehind n text top clocks q) → AreAlike t.refusal u.refusal → AreAlike r q
-told_alike n text top clocks r q t u h =
+pub told_alike : (n : ℕ) (text : List ℕ) (top : Option (List ℕ)) (clocks : List (List ℕ)) (half : ℕ) (r q : Refusal) (t : IsRefusedBehind n text top clocks half r) (u : IsRefusedBehind n text top clocks half q) → AreAlike t.refusal u.refusal → AreAlike r q
+told_alike n text top clocks half r q t u h =
     subst (λ (x : Refusal). AreAlike x q) (sym t.told) (subst (λ (x : Refusal). AreAlike (behind n t.refusal) x) (sym u.told) (alike_behind n t.refusal u.refusal h))
 
 -- a refusal that carries nothing is told as it is

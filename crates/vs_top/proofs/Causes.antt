@@ -221,7 +221,7 @@ queue_ends job order old new o (unattached e) =
     of_outcome old.register new.register o (WriteFault (wave_place 0)) e.outcome_is
     (write_ends old.register (with_texts old.register job job.stimuli) new.register (wave_place 0) (path_at (queue_paths job) 0) (texts old.register job job.stimuli) (λ z. omega arith) e.fails)
 queue_ends job order old new o (part e) = part_ends job old new o e
-queue_ends job order old new o (ordered e) = ordered_ends job order old new o e
+queue_ends job order old new o (ordered e w) = ordered_ends job order old new o e
 queue_ends job order old new o (unwritten e) =
     of_outcome old.register new.register o (WriteFault (wave_place 0)) e.outcome_is
     (unflushed_ends old.register e.before.register new.register e.answer (wave_place 0) (λ z. omega arith) (before e.ended) e.fails.fails)
@@ -240,8 +240,8 @@ ends job old new lines o (attached l m d e) =
     let paths = take e.lane (wave_paths job) in
     of_outcome old.register new.register o (WriteFault (wave_place e.lane)) e.outcome_is
     (write_ends old.register (with_waves old.register job paths) new.register (wave_place e.lane) (path_at (wave_paths job) e.lane) (waves old.register job paths) (λ z. omega arith) e.fails)
-ends job old new lines o (stopped l m d e) = round_ends job old new o e
-ends job old new lines o (whole l m d e) = whole_ends job old new o e
+ends job old new lines o (stopped l m d e w) = round_ends job old new o e
+ends job old new lines o (whole l m d e w) = whole_ends job old new o e
 ends job old new lines o (unflushed l m d e) =
     of_outcome old.register new.register o (WriteFault (wave_place e.lane)) e.outcome_is
     (unflushed_ends old.register e.before.register new.register e.answer (wave_place e.lane) (λ z. omega arith) (before e.ended) e.fails.fails)

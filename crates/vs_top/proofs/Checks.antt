@@ -62,7 +62,7 @@ whole_checked lane every_run some_run vectors job old now new m size found s bef
     let counted : AreCounted run (length job.stimuli) s.vectors s.settlings = subst (λ (n : ℕ). AreCounted run n s.vectors s.settlings) lanes (r.counted t run (b.in_round t)) in
     record {
       design = p.design;
-      accepted = accepted_as job.top job.clocks p.design (job.head ++ p.file) (design_text job old.contents) (ap (λ (file : List ℕ). job.head ++ file) (p.file_is t)) p.accepted;
+      accepted = accepted_as job.top job.clocks job.half p.design (job.head ++ p.file) (design_text job old.contents) (ap (λ (file : List ℕ). job.head ++ file) (p.file_is t)) p.accepted;
       lanes = λ i h. lane_checked every_run some_run vectors p.design job.clocks p.accepted.accepted run.ports (are_data_inputs p.design clocks p.all_ports.inputs) (run.texts i) (found_at found i) (done.valid i h) (done.found i h);
       found_are = r.lanes ∙ lanes;
       design_taken = (r.others t).before 1 (omega arith) ∙ (b.others t).before 1 (omega arith) ∙ (p.taken t).design;

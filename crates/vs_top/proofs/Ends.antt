@@ -24,8 +24,8 @@ use Rattle.vs_refusal.specs.declared.refusal.Refusal.{Refusal}
 use Rattle.vs_refusal.specs.declared.refusal.Refusal.TheVariants.{Bare, SamePath}
 use Rattle.vs_refusal.specs.declared.names.AtName.{AtName}
 use Rattle.vs_refusal.specs.declared.names.BareName.TheVariants.{Usage}
-use Rattle.vs_accept.specs.Refused.{token_refusal, macro_refusal, TreeFault, OutOfLanguage, OutOfGrammar, OutOfDepth, tree_refusal, rule_name, told_by, design_refusal}
-use Rattle.vs_accept.specs.Accepted.{IsRefusedText, ByTokens, ByMacros, ByTree, ByElaboration, ByRule}
+use Rattle.vs_accept.specs.Refused.{token_refusal, macro_refusal, TreeFault, OutOfLanguage, OutOfGrammar, OutOfDepth, tree_refusal, rule_name, told_by, design_refusal, delay_refusal}
+use Rattle.vs_accept.specs.Accepted.{IsRefusedText, ByTokens, ByMacros, ByTree, ByElaboration, ByRule, ByDelay}
 use Rattle.vs_rounds.specs.declared.stop.Stop.{Stop}
 use Rattle.vs_rounds.specs.declared.stop.Stop.TheVariants as R
 use Rattle.vs_setup.specs.declared.error.SetupError.{SetupError}
@@ -122,12 +122,16 @@ design_usage byte d (Cycle processes at) h = cc
 design_usage byte d (OfRace (rule.Race p bit at)) h = cc
 design_usage byte d (OfZero (rule.TimeZero p at)) h = cc
 
-text_usage : (text : List ℕ) (top : Option (List ℕ)) (clocks : List (List ℕ)) (r : Refusal) → IsRefusedText text top clocks r → r ≡ Bare Usage → ⊥
-text_usage text top clocks r (ByTokens e cut told) h = token_usage e (told ∙ ap (λ (q : Refusal). Some q) h)
-text_usage text top clocks r (ByMacros written e cut faulty told) h = macro_usage e (told ∙ ap (λ (q : Refusal). Some q) h)
-text_usage text top clocks r (ByTree tokens x reads fault told) h = tree_usage _ x (told ∙ h)
-text_usage text top clocks r (ByElaboration tokens source f read fault told) h = told_usage (rule_name f.rule) _ (told ∙ h)
-text_usage text top clocks r (ByRule tokens source d e x read elaborates broken told) h = design_usage _ e x (told ∙ h)
+delay_usage : (byte : ℕ → ℕ) (x : rule.DelayRefusal) → delay_refusal byte x ≡ Bare Usage → ⊥
+delay_usage byte (rule.Delay at) h = cc
+
+text_usage : (text : List ℕ) (top : Option (List ℕ)) (clocks : List (List ℕ)) (half : ℕ) (r : Refusal) → IsRefusedText text top clocks half r → r ≡ Bare Usage → ⊥
+text_usage text top clocks half r (ByTokens e cut told) h = token_usage e (told ∙ ap (λ (q : Refusal). Some q) h)
+text_usage text top clocks half r (ByMacros written e cut faulty told) h = macro_usage e (told ∙ ap (λ (q : Refusal). Some q) h)
+text_usage text top clocks half r (ByTree tokens x reads fault told) h = tree_usage _ x (told ∙ h)
+text_usage text top clocks half r (ByElaboration tokens source f read fault told) h = told_usage (rule_name f.rule) _ (told ∙ h)
+text_usage text top clocks half r (ByRule tokens source d e x read elaborates broken told) h = design_usage _ e x (told ∙ h)
+text_usage text top clocks half r (ByDelay tokens source d x read elaborates kept fine late told) h = delay_usage _ x (told ∙ h)
 
 same_refusal : (r q : Refusal) → Refused r ≡ Refused q → r ≡ q
 same_refusal r q h = cc
@@ -136,7 +140,7 @@ setup_usage : {tells : Bool} (job : Job) (old new : Told tells) (e : SetupError)
 setup_usage job old new S.TooLong c h = cc
 setup_usage job old new (S.Refused r) c h =
     let t = c.1.1 in
-    text_usage (job.head ++ c.1.0) job.top job.clocks t.refusal t.refused (bare_behind (length job.head) t.refusal Usage (sym t.told ∙ same_refusal r (Bare Usage) h))
+    text_usage (job.head ++ c.1.0) job.top job.clocks job.half t.refusal t.refused (bare_behind (length job.head) t.refusal Usage (sym t.told ∙ same_refusal r (Bare Usage) h))
 setup_usage job old new (S.Stimulus i e) c h = stimulus_usage i e h
 setup_usage job old new (S.ReadFault place) c h = cc
 setup_usage job old new S.Memory c h = cc
@@ -163,7 +167,7 @@ queue_usage job order old new o (unread e) h = stop_usage e.stop (sym e.outcome_
 queue_usage job order old new o (no_memory e) h = memory_usage (sym e.outcome_is ∙ h)
 queue_usage job order old new o (unattached e) h = fault_usage (wave_place 0) (sym e.outcome_is ∙ h)
 queue_usage job order old new o (part e) h = fault_usage (wave_place 0) (sym e.outcome_is ∙ h)
-queue_usage job order old new o (ordered e) h = ordered_usage e.course (sym e.outcome_is ∙ h)
+queue_usage job order old new o (ordered e w) h = ordered_usage e.course (sym e.outcome_is ∙ h)
 queue_usage job order old new o (unwritten e) h = fault_usage (wave_place 0) (sym e.outcome_is ∙ h)
 
 pub end_usage : {tells : Bool} (job : Job) (old new : Told tells) (lines : List ℕ) (o : Outcome) → IsEnd job old new lines o → o ≡ Refused (Bare Usage) → ⊥
@@ -174,8 +178,8 @@ end_usage job old new lines o (same l e) h = same_usage e.first e.second (sym e.
 end_usage job old new lines o (setup l d e) h = setup_usage job old new e.error e.cause (sym e.outcome_is ∙ h)
 end_usage job old new lines o (first l d e) h = stop_usage e.stop (sym e.outcome_is ∙ h)
 end_usage job old new lines o (attached l m d e) h = fault_usage (wave_place e.lane) (sym e.outcome_is ∙ h)
-end_usage job old new lines o (stopped l m d e) h = stop_usage e.stop (sym e.outcome_is ∙ h)
-end_usage job old new lines o (whole l m d e) h = done_usage e.summary (sym e.outcome_is ∙ h)
+end_usage job old new lines o (stopped l m d e w) h = stop_usage e.stop (sym e.outcome_is ∙ h)
+end_usage job old new lines o (whole l m d e w) h = done_usage e.summary (sym e.outcome_is ∙ h)
 end_usage job old new lines o (unflushed l m d e) h = fault_usage (wave_place e.lane) (sym e.outcome_is ∙ h)
 end_usage job old new lines o (check_stopped m d e) h = stop_usage e.stop (sym e.outcome_is ∙ h)
 end_usage job old new lines o (checked m d e) h = done_usage e.summary (sym e.outcome_is ∙ h)

@@ -5,7 +5,7 @@ use Rattle.vs_desk.specs.declared.desk.Way.TheVariants.{Write}
 use Rattle.vs_desk.specs.Desk.{Told, Register, Contents, Attachment, FailsAlone, Stays, IsAttached}
 use Rattle.vs_desk.specs.Laws.{EachPlaceIsAttached}
 use Rattle.vs_desk.specs.Places.{with_places, waveform_place}
-use Rattle.vs_waves.specs.Puts.{AreWritable, wave_place}
+use Rattle.vs_waves.specs.Puts.{AreOut, AreWritable, wave_place}
 use Rattle.vs_rounds.specs.declared.stop.Stop.{Stop}
 use Rattle.vs_rounds.specs.declared.stop.Stop.TheVariants as R
 use Rattle.vs_rounds.specs.Stops.{HasCause, StopsIn}
@@ -59,15 +59,15 @@ round_stays job old now new o s e = record {
 }
 
 -- all was written out: the job ended as its rounds did
-pub done_end : {tells : Bool} (job : Job) (old now new : Told tells) (r : Result Summary Outcome) → job.mode ≡ modes.Run → same_paths job ≡ None → Stays now new
+pub done_end : {tells : Bool} (job : Job) (old now new : Told tells) (r : Result Summary Outcome) → job.mode ≡ modes.Run → same_paths job ≡ None → Stays now new → AreOut new (length job.stimuli)
     → IfOk r (λ s. IsWholeEnd job old now (Done s)) → IfOk r (λ s. IsEnd job old new [] (Done s))
-done_end job old now new (Ok s) m d stays e = whole refl m d (whole_stays job old now new (Done s) stays e)
-done_end job old now new (Err o) m d stays e = tt
+done_end job old now new (Ok s) m d stays out e = whole refl m d (whole_stays job old now new (Done s) stays e) out
+done_end job old now new (Err o) m d stays out e = tt
 
-pub stopped_end : {tells : Bool} (job : Job) (old now new : Told tells) (r : Result Summary Outcome) → job.mode ≡ modes.Run → same_paths job ≡ None → Stays now new
+pub stopped_end : {tells : Bool} (job : Job) (old now new : Told tells) (r : Result Summary Outcome) → job.mode ≡ modes.Run → same_paths job ≡ None → Stays now new → AreOut new (length job.stimuli)
     → IfErr r (IsRoundEnd job old now) → IfErr r (IsEnd job old new [])
-stopped_end job old now new (Ok s) m d stays e = tt
-stopped_end job old now new (Err o) m d stays e = stopped refl m d (round_stays job old now new o stays e)
+stopped_end job old now new (Ok s) m d stays out e = tt
+stopped_end job old now new (Err o) m d stays out e = stopped refl m d (round_stays job old now new o stays e) out
 
 -- something was not
 pub unflushed_end : {tells : Bool} (job : Job) (old now new : Told tells) (r : Result Summary Outcome) (lane : ℕ) → job.mode ≡ modes.Run → same_paths job ≡ None → lane < length job.stimuli

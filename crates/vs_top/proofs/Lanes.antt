@@ -112,8 +112,8 @@ lane_checked every_run some_run has_vector d names a ports driven text found who
     }
 
 -- an equal text is accepted as the same design
-abbrev pub accepted_as : (top : Option (List ℕ)) (clocks : List (List ℕ)) (d : Design) (text other : List ℕ) → text ≡ other → IsAcceptedText text top clocks d → IsAcceptedText other top clocks d
-accepted_as top clocks d text other e a = record {
+abbrev pub accepted_as : (top : Option (List ℕ)) (clocks : List (List ℕ)) (half : ℕ) (d : Design) (text other : List ℕ) → text ≡ other → IsAcceptedText text top clocks half d → IsAcceptedText other top clocks half d
+accepted_as top clocks half d text other e a = record {
   short = subst (λ (t : List ℕ). length t ≤ most_bytes) e a.short;
   tokens = a.tokens;
   source = a.source;
@@ -123,25 +123,26 @@ accepted_as top clocks d text other e a = record {
   kept = a.kept;
   left = a.left;
   accepted = a.accepted;
+  in_time = a.in_time;
 }
 
 -- the size that is told of it is no less than its own
-size_within : {text : List ℕ} {top : Option (List ℕ)} {clocks : List (List ℕ)} {d : Design} (a : IsAcceptedText text top clocks d) → size_of d ≤ told_size a.written
+size_within : {text : List ℕ} {top : Option (List ℕ)} {clocks : List (List ℕ)} {half : ℕ} {d : Design} (a : IsAcceptedText text top clocks half d) → size_of d ≤ told_size a.written
 size_within {d = d} a = one_of_both (size_of d) (size_of a.written) (size_of (without_dead a.written)) (ap size_of a.left)
   where
     one_of_both : (k m n : ℕ) → k ≡ n → k ≤ max m n
     one_of_both k m n e = omega (arith, e)
 
 -- so many times
-pub sizes_within : {text : List ℕ} {top : Option (List ℕ)} {clocks : List (List ℕ)} {d : Design} (a : IsAcceptedText text top clocks d) (size settlings : ℕ) → size ≡ told_size a.written → size_of d * settlings ≤ size * settlings
+pub sizes_within : {text : List ℕ} {top : Option (List ℕ)} {clocks : List (List ℕ)} {half : ℕ} {d : Design} (a : IsAcceptedText text top clocks half d) (size settlings : ℕ) → size ≡ told_size a.written → size_of d * settlings ≤ size * settlings
 sizes_within {d = d} a size settlings is = mul-le-mul_right settlings (subst (λ (n : ℕ). size_of d ≤ n) (sym is) (size_within a))
 
 -- an accepted text and headers make the run of the job
-pub run_as : (job : Job) (old : Contents) (d : Design) (file : List ℕ) → file ≡ joined_files old.files job.design job.others → (a : IsAcceptedText (job.head ++ file) job.top job.clocks d)
+pub run_as : (job : Job) (old : Contents) (d : Design) (file : List ℕ) → file ≡ joined_files old.files job.design job.others → (a : IsAcceptedText (job.head ++ file) job.top job.clocks job.half d)
     → HaveHeaders (ports_of job.mode a) old.files job.stimuli (length job.stimuli) → IsRunOf job old (run_of job old.files d (clock_bits a.accepted.clocks) (ports_of job.mode a))
 run_as job old d file e a headers = record {
   design = d;
-  accepted = accepted_as job.top job.clocks d (job.head ++ file) (design_text job old) (ap (λ (file : List ℕ). job.head ++ file) e) a;
+  accepted = accepted_as job.top job.clocks job.half d (job.head ++ file) (design_text job old) (ap (λ (file : List ℕ). job.head ++ file) e) a;
   run_is = refl;
   headers = headers;
 }

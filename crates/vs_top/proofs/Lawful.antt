@@ -128,14 +128,14 @@ no_refusal not_both job c l r (ByPaths x y two is) = some_none (same_paths job) 
 no_refusal not_both job c l r (ByLength d long is) =
     let short = l.accepted.short in
     omega (arith, long, short)
-no_refusal not_both job c l r (ByDesign d short t) = not_both (design_text job c) job.top job.clocks l.design t.refusal l.accepted t.refused
+no_refusal not_both job c l r (ByDesign d short t) = not_both (design_text job c) job.top job.clocks job.half l.design t.refusal l.accepted t.refused
 no_refusal not_both job c l r (ByHeader d i e lt h is) = lawful_header job c l i e lt h
 no_refusal not_both job c l r (ByLine d run k i e lt m h is) = lawful_line job c l run m i e lt h.refusal
 
 -- ---- what is done is lawful
 
 -- the ports of a run have to name no output
-pub run_free : (mode : Mode) {text : List ℕ} {top : Option (List ℕ)} {clocks : List (List ℕ)} {d : Design} (a : IsAcceptedText text top clocks d) → mode ≡ modes.Run → (ports_of mode a).demanded ≡ false
+pub run_free : (mode : Mode) {text : List ℕ} {top : Option (List ℕ)} {clocks : List (List ℕ)} {half : ℕ} {d : Design} (a : IsAcceptedText text top clocks half d) → mode ≡ modes.Run → (ports_of mode a).demanded ≡ false
 run_free mode a e = subst (λ (m : Mode). (ports_of m a).demanded ≡ false) (sym e) refl
 
 -- a valid stimulus by ports that aren't demanded is one by these
@@ -169,7 +169,7 @@ checked_lawful one job old new found s paths w = record {
 }
 
 -- the header of a run of the queue has to name no output either
-pub queue_free : (mode : Mode) (order : ℕ) {text : List ℕ} {top : Option (List ℕ)} {clocks : List (List ℕ)} {d : Design} (a : IsAcceptedText text top clocks d) → mode ≡ modes.Queue order → (ports_of mode a).demanded ≡ false
+pub queue_free : (mode : Mode) (order : ℕ) {text : List ℕ} {top : Option (List ℕ)} {clocks : List (List ℕ)} {half : ℕ} {d : Design} (a : IsAcceptedText text top clocks half d) → mode ≡ modes.Queue order → (ports_of mode a).demanded ≡ false
 queue_free mode order a e = subst (λ (m : Mode). (ports_of m a).demanded ≡ false) (sym e) refl
 
 -- the stimulus of a run of the queue is valid
@@ -214,8 +214,8 @@ done_lawful one job old new lines s told (same l e) = absurd (not_done s (Refuse
 done_lawful one job old new lines s told (setup l d e) = absurd (not_done s (setup_outcome e.error) e.outcome_is (setup_stops e.error))
 done_lawful one job old new lines s told (first l d e) = absurd (not_done s (stop_outcome e.stop) e.outcome_is (stop_stops e.stop))
 done_lawful one job old new lines s told (attached l m d e) = absurd (not_done s (WriteFault (wave_place e.lane)) e.outcome_is tt)
-done_lawful one job old new lines s told (stopped l m d e) = absurd (not_done s (stop_outcome e.stop) e.outcome_is (stop_stops e.stop))
-done_lawful one job old new lines s told (whole l m d e) = written_lawful one job old.contents new.contents e.summary m d (e.written told)
+done_lawful one job old new lines s told (stopped l m d e w) = absurd (not_done s (stop_outcome e.stop) e.outcome_is (stop_stops e.stop))
+done_lawful one job old new lines s told (whole l m d e w) = written_lawful one job old.contents new.contents e.summary m d (e.written told)
 done_lawful one job old new lines s told (unflushed l m d e) = absurd (not_done s (WriteFault (wave_place e.lane)) e.outcome_is tt)
 done_lawful one job old new lines s told (check_stopped m d e) = absurd (not_done s (stop_outcome e.stop) e.outcome_is (stop_stops e.stop))
 done_lawful one job old new lines s told (checked m d e) = checked_lawful one job old.contents new.contents e.found e.summary d (e.checked told)

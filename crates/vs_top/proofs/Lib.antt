@@ -18,3 +18,4 @@ pub mod Benches
 pub mod Stores
 pub mod Flushing
 pub mod Keeping
+pub mod Leaving

@@ -1,7 +1,7 @@
 -- A line that was lost, and one that was put behind it.
 use Rattle.std.proofs.Common.{◌≡◌, ℕ, inl, inr, Bool, List, ◌++◌, length, take, Ok, Err, refl, sym, ap, ◌∙◌, subst, arith}
 use Rattle.std.proofs.Math.Seq.{take-length}
-use Rattle.vs_desk.specs.Desk.{Told, Register, Contents, with_put, Rose, Fails, PutsAll, PutsPart}
+use Rattle.vs_desk.specs.Desk.{Told, Register, Contents, with_put, Rose, Fails, PutsReport, PutsPart}
 use Rattle.vs_desk.specs.Laws.{PutsInParts}
 use Rattle.vs_top.specs.declared.outcome.Outcome.{Outcome}
 use Rattle.vs_top.specs.declared.outcome.Outcome.TheVariants.{Done, Ordered, Refused, ReadFault, WriteFault, Memory}
@@ -9,11 +9,11 @@ use Rattle.vs_top.specs.Outcomes.{outcome_line}
 use Rattle.vs_top.specs.Reported.{PutsLine, LosesLine, ReportsLine, PutsBoth, LosesBoth, OnDone, OnStopped, ReportsDone}
 
 -- what a call that puts a line has done
-pub put_whole : {tells : Bool} {V E : Type 0} (old new : Told tells) (line : List ℕ) (v : V) → PutsAll {E = E} old new 0 line (Ok v) → PutsLine old new line
-put_whole old new line v p = record { same = p.same; put = p.put }
+pub put_whole : {tells : Bool} {V E : Type 0} (old new : Told tells) (line : List ℕ) (v : V) → PutsReport {E = E} old new line (Ok v) → PutsLine old new line
+put_whole old new line v p = record { same = p.puts.same; put = p.puts.put; out = p.out }
 
-pub put_part : {tells : Bool} {V E : Type 0} (old new : Told tells) (line : List ℕ) (e : E) → PutsAll {V = V} old new 0 line (Err e) → LosesLine old new line
-put_part old new line e p = record { failed = p.failed; put = p.part }
+pub put_part : {tells : Bool} {V E : Type 0} (old new : Told tells) (line : List ℕ) (e : E) → PutsReport {V = V} old new line (Err e) → LosesLine old new line
+put_part old new line e p = record { failed = p.puts.failed; put = p.puts.part; out = p.out }
 
 -- all was put
 pub done_put : {tells : Bool} (old new : Told tells) (before : List ℕ) (outcome : Outcome) → PutsLine old new (before ++ outcome_line outcome) → OnDone outcome (ReportsDone old new before outcome outcome)
@@ -63,10 +63,12 @@ loses_both parts old now new first second a (inl p) = record {
   failed = subst (λ (r : Register). Fails old.register r 0 old.register.asked) (sym p.same) a.failed;
   put = λ t. both old.register now.register old.contents now.contents new.contents parts first second (length second) (a.put t)
       (p.put t ∙ ap (λ (xs : List ℕ). with_put now.register now.contents 0 xs) (sym (take-length second)));
+  out = λ place elsewhere h. p.out place elsewhere (a.out place elsewhere h);
 }
 loses_both parts old now new first second a (inr q) = record {
   failed = Fails-trans old.register now.register new.register a.failed q.failed;
   put = λ t. let p = q.put t in both old.register now.register old.contents now.contents new.contents parts first second p.0 (a.put t) p.2;
+  out = λ place elsewhere h. q.out place elsewhere (a.out place elsewhere h);
 }
 
 -- the report of what was done, some of which was lost

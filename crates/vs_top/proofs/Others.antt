@@ -104,7 +104,7 @@ queued p w law j order old new o (unread h) = caused p w (with_texts old.registe
 queued p w law j order old new o (no_memory h) = same p w (with_texts old.register j j.stimuli) new.register h.register_is ∙ texts p w law old.register j j.stimuli
 queued p w law j order old new o (unattached h) = fails p w (with_texts old.register j j.stimuli) new.register _ _ h.fails ∙ texts p w law old.register j j.stimuli
 queued p w law j order old new o (part h) = partly p w law j old new o h
-queued p w law j order old new o (ordered h) = wholly p w law j order old new o h
+queued p w law j order old new o (ordered h w) = wholly p w law j order old new o h
 queued p w law j order old new o (unwritten h) = fails p w h.before.register new.register _ _ h.fails.fails ∙ put p w law j order old h.before h.answer h.ended
 
 ended : (p : ℕ) → IsOther p → {tells : Bool} → OtherPlacesStay → (j : Job) (old new : Told tells) (lines : List ℕ) (o : Outcome) → IsEnd j old new lines o → IsLeft p old.register new.register
@@ -112,8 +112,8 @@ ended p w law j old new lines o (end.same l h) = same p w old.register new.regis
 ended p w law j old new lines o (end.setup l n h) = unprepared p w law j old new h.error h.cause
 ended p w law j old new lines o (end.first l n h) = caused p w (with_texts old.register j j.stimuli) new.register h.stop h.cause ∙ texts p w law old.register j j.stimuli
 ended p w law j old new lines o (end.attached l m n h) = fails p w (with_waves old.register j (take h.lane (wave_paths j))) new.register _ _ h.fails ∙ waves p w law old.register j (take h.lane (wave_paths j))
-ended p w law j old new lines o (end.stopped l m n h) = stopped p w law j old new o h
-ended p w law j old new lines o (end.whole l m n h) = whole p w law j old new o h
+ended p w law j old new lines o (end.stopped l m n h k) = stopped p w law j old new o h
+ended p w law j old new lines o (end.whole l m n h k) = whole p w law j old new o h
 ended p w law j old new lines o (end.unflushed l m n h) = fails p w h.before.register new.register _ _ h.fails.fails ∙ either p w law j old h.before h.answer h.ended
 ended p w law j old new lines o (end.check_stopped m n h) = caused p w (with_texts old.register j j.stimuli) new.register h.stop h.cause ∙ texts p w law old.register j j.stimuli
 ended p w law j old new lines o (end.checked m n h) = same p w (with_texts old.register j j.stimuli) new.register h.register_is ∙ texts p w law old.register j j.stimuli

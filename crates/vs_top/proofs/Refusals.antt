@@ -93,7 +93,7 @@ queue_refused job order old new told d o r is (unread e) =
 queue_refused job order old new told d o r is (no_memory e) = absurd (not_memory r (is ∙ e.outcome_is))
 queue_refused job order old new told d o r is (unattached e) = absurd (no_fault r (wave_place 0) (is ∙ e.outcome_is))
 queue_refused job order old new told d o r is (part e) = absurd (no_fault r (wave_place 0) (is ∙ e.outcome_is))
-queue_refused job order old new told d o r is (ordered e) = absurd (not_ordered r e.course (is ∙ e.outcome_is))
+queue_refused job order old new told d o r is (ordered e w) = absurd (not_ordered r e.course (is ∙ e.outcome_is))
 queue_refused job order old new told d o r is (unwritten e) = absurd (no_fault r (wave_place 0) (is ∙ e.outcome_is))
 
 pub refused_job : {tells : Bool} (job : Job) (old new : Told tells) (lines : List ℕ) → IsTrue tells
@@ -107,10 +107,10 @@ refused_job job old new lines told o r is (first l d e) =
     read_stop job old.contents d s.0 s.1 0 new.contents e.stop r e.lane s.2 (is ∙ e.outcome_is)
 refused_job job old new lines told o r is (attached l m d e) = absurd (no_fault r (wave_place e.lane) (is ∙ e.outcome_is))
 refused_job job old new lines told o r is (unflushed l m d e) = absurd (no_fault r (wave_place e.lane) (is ∙ e.outcome_is))
-refused_job job old new lines told o r is (stopped l m d e) =
+refused_job job old new lines told o r is (stopped l m d e w) =
     let s = e.stops told in
     unsettled job old.contents d s.0 s.1 s.2.0 new.contents e.stop r e.lane s.2.1 (is ∙ e.outcome_is)
-refused_job job old new lines told o r is (whole l m d e) = absurd (not_done r e.summary (is ∙ e.outcome_is))
+refused_job job old new lines told o r is (whole l m d e w) = absurd (not_done r e.summary (is ∙ e.outcome_is))
 refused_job job old new lines told o r is (check_stopped m d e) =
     let s = e.stops told in
     read_stop job old.contents d s.0 s.1 s.2.0 new.contents e.stop r e.lane s.2.1.read (is ∙ e.outcome_is)
@@ -126,18 +126,18 @@ pub record OneText : Type 0 where
 
 same_clocks : OneText → (job : Job) (c : Contents) (d : Design) (a : IsDesignOf job c d) (e : Design) (b : IsDesignOf job c e) → clock_bits a.accepted.clocks ≡ clock_bits b.accepted.clocks
 same_clocks one job c d a e b =
-    subst (λ (e : Design). (b : IsDesignOf job c e) → clock_bits a.accepted.clocks ≡ clock_bits b.accepted.clocks) (one.design (design_text job c) job.top job.clocks d e a b)
+    subst (λ (e : Design). (b : IsDesignOf job c e) → clock_bits a.accepted.clocks ≡ clock_bits b.accepted.clocks) (one.design (design_text job c) job.top job.clocks job.half d e a b)
     (λ b. ap clock_bits (some_same _ a.accepted.clocks b.accepted.clocks a.accepted.clocks_found b.accepted.clocks_found)) b
 
 pub one_ports : OneText → (job : Job) (c : Contents) (d : Design) (a : IsDesignOf job c d) (e : Design) (b : IsDesignOf job c e) → ports_of job.mode a ≡ ports_of job.mode b
 one_ports one job c d a e b =
-    let design = one.design (design_text job c) job.top job.clocks d e a b in
+    let design = one.design (design_text job c) job.top job.clocks job.half d e a b in
     let source = one.reading (design_text job c) a.tokens b.tokens a.source b.source a.read b.read in
     λ i. record { inputs = data_inputs (design i) (same_clocks one job c d a e b i); outputs = outputs (design i) (top_outputs (source i) job.top); demanded = (ports_of job.mode a).demanded }
 
 one_run : OneText → (job : Job) (c : Contents) (m n : Run) → IsRunOf job c m → IsRunOf job c n → m ≡ n
 one_run one job c m n a b =
-    let design = one.design (design_text job c) job.top job.clocks a.design b.design a.accepted b.accepted in
+    let design = one.design (design_text job c) job.top job.clocks job.half a.design b.design a.accepted b.accepted in
     a.run_is
     ∙ (λ i. run_of job c.files (design i) (same_clocks one job c a.design a.accepted b.design b.accepted i) (one_ports one job c a.design a.accepted b.design b.accepted i))
     ∙ sym b.run_is
@@ -227,12 +227,12 @@ by_length job c r q d long is (ByDesign e short t) = absurd (long_short (design_
 by_length job c r q d long is (ByHeader e j f lt h be) = absurd (long_short (design_text job c) long h.accepted.short)
 by_length job c r q d long is (ByLine e n l j f lt m h be) = absurd (long_short (design_text job c) long m.accepted.short)
 
-by_design : Laws → (job : Job) (c : Contents) (r q : Refusal) → same_paths job ≡ None → length (design_text job c) ≤ most_bytes → IsRefusedBehind (length job.head) (design_text job c) job.top job.clocks r → IsRefusedJob job c q → AreAlike r q
+by_design : Laws → (job : Job) (c : Contents) (r q : Refusal) → same_paths job ≡ None → length (design_text job c) ≤ most_bytes → IsRefusedBehind (length job.head) (design_text job c) job.top job.clocks job.half r → IsRefusedJob job c q → AreAlike r q
 by_design laws job c r q d short t (ByPaths v w two be) = absurd (some_none (same_paths job) (v, w) two d)
 by_design laws job c r q d short t (ByLength e long be) = absurd (long_short (design_text job c) long short)
-by_design laws job c r q d short t (ByDesign e also u) = told_alike (length job.head) (design_text job c) job.top job.clocks r q t u (laws.alike (design_text job c) job.top job.clocks t.refusal u.refusal t.refused u.refused)
-by_design laws job c r q d short t (ByHeader e j f lt h be) = absurd (laws.not_both (design_text job c) job.top job.clocks h.design t.refusal h.accepted t.refused)
-by_design laws job c r q d short t (ByLine e n l j f lt m h be) = absurd (laws.not_both (design_text job c) job.top job.clocks m.design t.refusal m.accepted t.refused)
+by_design laws job c r q d short t (ByDesign e also u) = told_alike (length job.head) (design_text job c) job.top job.clocks job.half r q t u (laws.alike (design_text job c) job.top job.clocks job.half t.refusal u.refusal t.refused u.refused)
+by_design laws job c r q d short t (ByHeader e j f lt h be) = absurd (laws.not_both (design_text job c) job.top job.clocks job.half h.design t.refusal h.accepted t.refused)
+by_design laws job c r q d short t (ByLine e n l j f lt m h be) = absurd (laws.not_both (design_text job c) job.top job.clocks job.half m.design t.refusal m.accepted t.refused)
 
 -- a header that is refused, and the job's run
 header_run : OneText → (job : Job) (c : Contents) (i : ℕ) (e : StimError) (n : Run) → i < length job.stimuli → IsHeaderRefusal job c i e → IsRunOf job c n → ⊥
@@ -244,7 +244,7 @@ header_run one job c i e n lt h m =
 by_header : Laws → (job : Job) (c : Contents) (r q : Refusal) → same_paths job ≡ None → (i : ℕ) (e : StimError) → i < length job.stimuli → IsHeaderRefusal job c i e → Refused r ≡ stimulus_outcome i e → IsRefusedJob job c q → AreAlike r q
 by_header laws job c r q d i e lt h is (ByPaths v w two be) = absurd (some_none (same_paths job) (v, w) two d)
 by_header laws job c r q d i e lt h is (ByLength x long be) = absurd (long_short (design_text job c) long h.accepted.short)
-by_header laws job c r q d i e lt h is (ByDesign x short t) = absurd (laws.not_both (design_text job c) job.top job.clocks h.design t.refusal h.accepted t.refused)
+by_header laws job c r q d i e lt h is (ByDesign x short t) = absurd (laws.not_both (design_text job c) job.top job.clocks job.half h.design t.refusal h.accepted t.refused)
 by_header laws job c r q d i e lt h is (ByHeader x j f also g be) = same_told r q (stimulus_outcome i e) (stimulus_outcome j f) is (one_header laws.one job c i j e f h g) be
 by_header laws job c r q d i e lt h is (ByLine x n l j f also m g be) = absurd (header_run laws.one job c i e n lt h m)
 
@@ -252,7 +252,7 @@ by_line : Laws → (job : Job) (c : Contents) (r q : Refusal) → same_paths job
     → Refused r ≡ stimulus_outcome i e → IsRefusedJob job c q → AreAlike r q
 by_line laws job c r q d n k i e lt m h is (ByPaths v w two be) = absurd (some_none (same_paths job) (v, w) two d)
 by_line laws job c r q d n k i e lt m h is (ByLength x long be) = absurd (long_short (design_text job c) long m.accepted.short)
-by_line laws job c r q d n k i e lt m h is (ByDesign x short t) = absurd (laws.not_both (design_text job c) job.top job.clocks m.design t.refusal m.accepted t.refused)
+by_line laws job c r q d n k i e lt m h is (ByDesign x short t) = absurd (laws.not_both (design_text job c) job.top job.clocks job.half m.design t.refusal m.accepted t.refused)
 by_line laws job c r q d n k i e lt m h is (ByHeader x j f also g be) = absurd (header_run laws.one job c j f n also g m)
 by_line laws job c r q d n k i e lt m h is (ByLine x o l j f also p g be) =
     let there = subst (λ (run : Run). IsRefusal run (length job.stimuli) l j f) (one_run laws.one job c o n p m) g in

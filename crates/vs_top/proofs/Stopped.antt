@@ -62,5 +62,5 @@ queue_undone job order old new s (unread e) = not_done s (stop_outcome e.stop) e
 queue_undone job order old new s (no_memory e) = not_done s Memory e.outcome_is tt
 queue_undone job order old new s (unattached e) = not_done s (WriteFault (wave_place 0)) e.outcome_is tt
 queue_undone job order old new s (part e) = not_done s (WriteFault (wave_place 0)) e.outcome_is tt
-queue_undone job order old new s (ordered e) = apart s e.course e.outcome_is
+queue_undone job order old new s (ordered e w) = apart s e.course e.outcome_is
 queue_undone job order old new s (unwritten e) = not_done s (WriteFault (wave_place 0)) e.outcome_is tt

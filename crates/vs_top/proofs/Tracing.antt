@@ -201,7 +201,7 @@ traced_end some_run has_vector job order old now new a ports ks text c mode is_o
           record {
             whole = record {
               design = d;
-              accepted = accepted_as job.top job.clocks d (job.head ++ l.file) (design_text job old.contents) (ap (λ (file : List ℕ). job.head ++ file) (l.file_is t)) l.loaded.accepted;
+              accepted = accepted_as job.top job.clocks job.half d (job.head ++ l.file) (design_text job old.contents) (ap (λ (file : List ℕ). job.head ++ file) (l.file_is t)) l.loaded.accepted;
               lane = lane_ordered some_run has_vector job.share d job.clocks l.loaded.accepted.accepted job.half run.ports (queue_free job.mode order l.loaded.accepted mode)
                   (are_data_inputs d clocks (subst (λ (is : PortLists). All IsInput is.inputs) l.loaded.ports_are l.loaded.are_ports.inputs)) (run.texts 0) text r.whole r.every;
             };

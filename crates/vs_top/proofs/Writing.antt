@@ -7,7 +7,7 @@ use Rattle.vs_desk.specs.Desk.{Told, Register, Contents, Fails, FailsAlone, Stay
 use Rattle.vs_desk.specs.Places.{with_places, waveform_place}
 use Rattle.vs_feed.specs.Opened.{path_at}
 use Rattle.vs_waves.specs.Attached.{Empties, AreEmptied}
-use Rattle.vs_waves.specs.Puts.{wave_place}
+use Rattle.vs_waves.specs.Puts.{AreOut, wave_place}
 use Rattle.vs_job.specs.declared.job.Job.{Job}
 use Rattle.vs_job.specs.declared.job.Mode.TheVariants as modes
 use Rattle.vs_job.specs.Places.{same_paths}
@@ -18,7 +18,7 @@ use Rattle.vs_top.specs.declared.outcome.Outcome.TheVariants.{Ordered, WriteFaul
 use Rattle.vs_top.specs.Ended.{IsEnd, IsQueueEnd, IsPartEnd, IsOrderedEnd, OnlyWavesPut, with_waves, queue_paths}
 use Rattle.vs_top.specs.Ended.IsEnd.{queued}
 use Rattle.vs_top.specs.Ended.IsQueueEnd.{unattached, part, ordered, unwritten}
-use Rattle.vs_top.specs.Traced.{IsTraced, PutFails, WriteFails, IsWaveAttached, IsWaveWritten, IsWaveUnwritten}
+use Rattle.vs_top.specs.Traced.{IsTraced, PutFails, PutsWave, WriteFails, IsWaveAttached, IsWaveWritten, IsWaveUnwritten}
 use Rattle.vs_top.specs.Traced.WriteFails.{in_part, put_back}
 use Rattle.vs_top.specs.Traced.IsWaveUnwritten.{no_place, at_place}
 use Rattle.vs_top.proofs.Lawful.{ordered_run}
@@ -26,9 +26,9 @@ use Rattle.vs_top.proofs.Queued.{same_course_of}
 
 -- ---- a text that is put, and written out
 
-pub all_put : {tells : Bool} {V E : Type 0} (old mid new : Told tells) (place : ℕ) (text : List ℕ) (result : Result V E) → PutsAll old mid place text result → Stays mid new → OnOk result (Puts old new place text)
-all_put old mid new place text (Ok v) p s = record { same = s.same ∙ p.same; put = λ t. s.bytes t ∙ p.put t }
-all_put old mid new place text (Err e) p s = tt
+pub all_put : {tells : Bool} {V E : Type 0} (old mid new : Told tells) (text : List ℕ) (result : Result V E) → PutsAll old mid (wave_place 0) text result → Stays mid new → AreOut new 1 → OnOk result (PutsWave old new text)
+all_put old mid new text (Ok v) p s out = record { put = record { same = s.same ∙ p.same; put = λ t. s.bytes t ∙ p.put t }; out = out }
+all_put old mid new text (Err e) p s out = tt
 
 pub part_put : {tells : Bool} {V E : Type 0} (old mid new : Told tells) (place : ℕ) (text : List ℕ) (result : Result V E) → PutsAll old mid place text result → Stays mid new → OnErr result (WriteFails old new place text)
 part_put old mid new place text (Ok v) p s = tt
@@ -119,12 +119,12 @@ whole_end job order old mid now new text c order_is traced a p = record {
 }
 
 -- the waveform is written
-pub written_end : {tells : Bool} (job : Job) (order : ℕ) (old mid new : Told tells) (text : List ℕ) (c : Course) (paths : List (List ℕ)) → job.mode ≡ modes.Queue order → same_paths job ≡ None → c.order ≡ order
+pub written_end : {tells : Bool} (job : Job) (order : ℕ) (old mid new : Told tells) (text : List ℕ) (c : Course) (paths : List (List ℕ)) → length job.stimuli ≡ 1 → job.mode ≡ modes.Queue order → same_paths job ≡ None → c.order ≡ order
     → IsTraced job old mid text c → paths ≡ queue_paths job → IsWaveWritten paths text mid new → IsEnd job old new [] (Ordered c)
-written_end {tells} job order old mid new text c paths mode different order_is traced e w = go (subst (λ (ps : List (List ℕ)). IsWaveWritten ps text mid new) e w)
+written_end {tells} job order old mid new text c paths lone mode different order_is traced e w = go (subst (λ (ps : List (List ℕ)). IsWaveWritten ps text mid new) e w)
   where
     go : IsWaveWritten (queue_paths job) text mid new → IsEnd job old new [] (Ordered c)
-    go v = queued refl different order mode (ordered (whole_end job order old mid v.middle new text c order_is traced v.attached v.put))
+    go v = queued refl different order mode (ordered (whole_end job order old mid v.middle new text c order_is traced v.attached v.put.put) (subst (AreOut new) (sym lone) v.put.out))
 
 -- or not
 unwritten_end : {tells : Bool} (job : Job) (order : ℕ) (old mid now new : Told tells) (text : List ℕ) (c : Course) → c.order ≡ order → IsTraced job old mid text c → IsWaveAttached (queue_paths job) mid now

@@ -37,7 +37,7 @@ pub record IsLaneChecked (d : Design) (clocks : List ℕ) (ports : PortLists) (t
 -- the design, of the stimuli and of the lanes that missed something, where the desk had these contents before and after.
 pub record IsChecked (job : Job) (old new : Contents) (found : List (Option Found)) (s : Summary) : Type 0 where
   pub design : Design
-  pub accepted : IsAcceptedText (design_text job old) job.top job.clocks design
+  pub accepted : IsAcceptedText (design_text job old) job.top job.clocks job.half design
   pub lanes : (i : ℕ) → i < length job.stimuli
       → IsLaneChecked design (clock_bits accepted.accepted.clocks) (ports_of job.mode accepted) (old.files (path_at job.stimuli i)) (found_at found i)
   pub found_are : length found ≡ length job.stimuli

@@ -7,7 +7,7 @@ use Rattle.vs_design.specs.Clocks.{clock_bits}
 use Rattle.vs_design.specs.Designs.{Design}
 use Rattle.vs_feed.specs.Opened.{path_at, HaveHeaders}
 use Rattle.vs_misses.specs.Missed.{Found}
-use Rattle.vs_waves.specs.Puts.{wave_place}
+use Rattle.vs_waves.specs.Puts.{AreOut, wave_place}
 use Rattle.vs_waves.specs.Attached.{AreEmptied, AreFree}
 use Rattle.vs_rounds.specs.declared.stop.Stop.{Stop}
 use Rattle.vs_rounds.specs.Lanes.{Run, reading_of}
@@ -203,24 +203,25 @@ pub record IsUnwrittenEnd {tells : Bool} (job : Job) (order : ℕ) (old new : To
   pub ended : IsPartEnd job old before answer ⊎ IsOrderedEnd job order old before answer
   pub fails : FailsAlone before new (wave_place 0) before.register.asked
 
--- How a run of the queue ended behind the opening of its stimulus.
+-- How a run of the queue ended behind the opening of its stimulus. Where it ran to its end, nothing of its waveform is kept back.
 pub data IsQueueEnd {tells : Bool} (job : Job) (order : ℕ) (old new : Told tells) (o : Outcome) : Type 0 where
   unread : IsUnreadEnd job old new o → IsQueueEnd job order old new o
   no_memory : IsShortEnd job old new o → IsQueueEnd job order old new o
   unattached : IsUnattachedEnd job old new o → IsQueueEnd job order old new o
   part : IsPartEnd job old new o → IsQueueEnd job order old new o
-  ordered : IsOrderedEnd job order old new o → IsQueueEnd job order old new o
+  ordered : IsOrderedEnd job order old new o → AreOut new (length job.stimuli) → IsQueueEnd job order old new o
   unwritten : IsUnwrittenEnd job order old new o → IsQueueEnd job order old new o
 
 -- How a job ended, and what is to be put before its report line, where the desk told this before and tells that now: two of its paths are equal, or none
--- are and it went on, as a run, as a check or as a run of the queue. Only a check whose rounds have begun has something to put there.
+-- are and it went on, as a run, as a check or as a run of the queue. Only a check whose rounds have begun has something to put there. Where
+-- rounds ended or stopped, nothing of what was put of a waveform is kept back, but where some of it couldn't be written out.
 pub data IsEnd {tells : Bool} (job : Job) (old new : Told tells) (lines : List ℕ) (o : Outcome) : Type 0 where
   same : lines ≡ [] → IsSameEnd job old new o → IsEnd job old new lines o
   setup : lines ≡ [] → same_paths job ≡ None → IsSetupEnd job old new o → IsEnd job old new lines o
   first : lines ≡ [] → same_paths job ≡ None → IsFirstEnd job old new o → IsEnd job old new lines o
   attached : lines ≡ [] → job.mode ≡ modes.Run → same_paths job ≡ None → IsAttachEnd job old new o → IsEnd job old new lines o
-  stopped : lines ≡ [] → job.mode ≡ modes.Run → same_paths job ≡ None → IsRoundEnd job old new o → IsEnd job old new lines o
-  whole : lines ≡ [] → job.mode ≡ modes.Run → same_paths job ≡ None → IsWholeEnd job old new o → IsEnd job old new lines o
+  stopped : lines ≡ [] → job.mode ≡ modes.Run → same_paths job ≡ None → IsRoundEnd job old new o → AreOut new (length job.stimuli) → IsEnd job old new lines o
+  whole : lines ≡ [] → job.mode ≡ modes.Run → same_paths job ≡ None → IsWholeEnd job old new o → AreOut new (length job.stimuli) → IsEnd job old new lines o
   unflushed : lines ≡ [] → job.mode ≡ modes.Run → same_paths job ≡ None → IsUnflushedEnd job old new o → IsEnd job old new lines o
   check_stopped : job.mode ≡ modes.Check → same_paths job ≡ None → IsCheckEnd job old new lines o → IsEnd job old new lines o
   checked : job.mode ≡ modes.Check → same_paths job ≡ None → IsCheckedEnd job old new lines o → IsEnd job old new lines o

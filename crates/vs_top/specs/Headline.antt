@@ -64,7 +64,7 @@ pub record AreStores (d : Design) (clocks : List ℕ) (settlings operations : �
 -- contents before and after. (That the design's further files were is said where they are read: `AreTaken` of vs_setup.)
 pub record IsWritten (job : Job) (old new : Contents) (s : Summary) : Type 0 where
   pub design : Design
-  pub accepted : IsAcceptedText (design_text job old) job.top job.clocks design
+  pub accepted : IsAcceptedText (design_text job old) job.top job.clocks job.half design
   pub lanes : (i : ℕ) → i < length job.stimuli
       → IsLaneWritten job.share design (clock_bits accepted.accepted.clocks) job.half (ports_of job.mode accepted) (old.files (path_at job.stimuli i)) (new.put (wave_place i))
   pub design_taken : new.left design_place ≡ []

@@ -19,7 +19,7 @@ use Rattle.vs_top.specs.Headline.{IsLaneWritten}
 -- of the event queue on it has.
 pub record IsOrderedText (job : Job) (old : Contents) (text : List ℕ) : Type 0 where
   pub design : Design
-  pub accepted : IsAcceptedText (design_text job old) job.top job.clocks design
+  pub accepted : IsAcceptedText (design_text job old) job.top job.clocks job.half design
   pub lane : IsLaneWritten job.share design (clock_bits accepted.accepted.clocks) job.half (ports_of job.mode accepted) (old.files (path_at job.stimuli 0)) text
 
 -- The run on these vectors that the number chooses has so many steps, as far as 64 bits can count.

@@ -25,7 +25,7 @@ pub data IsRefusedJob (job : Job) (c : Contents) (q : Refusal) : Type 0 where
   -- its design has more bytes than it may, with the lines of the macros before it
   ByLength : same_paths job ≡ None → most_bytes < length (design_text job c) → q ≡ Bare TooLong → IsRefusedJob job c q
   -- its design is refused, by the first rule that it breaks, with places of its file
-  ByDesign : same_paths job ≡ None → length (design_text job c) ≤ most_bytes → IsRefusedBehind (length job.head) (design_text job c) job.top job.clocks q → IsRefusedJob job c q
+  ByDesign : same_paths job ≡ None → length (design_text job c) ≤ most_bytes → IsRefusedBehind (length job.head) (design_text job c) job.top job.clocks job.half q → IsRefusedJob job c q
   -- the stimulus of this lane is the first that is refused up to its header
   ByHeader : same_paths job ≡ None → (lane : ℕ) (error : StimError) → lane < length job.stimuli → IsHeaderRefusal job c lane error
       → Refused q ≡ stimulus_outcome lane error → IsRefusedJob job c q

@@ -1,6 +1,6 @@
 -- What place 0 has got of a report.
 use Rattle.std.specs.Prelude.{◌≡◌, ℕ, ◌<◌, ◌⊎◌, Bool, List, ◌++◌, length, take, IsTrue}
-use Rattle.vs_desk.specs.Desk.{Register, Contents, Told, with_put, Fails, PutsPart}
+use Rattle.vs_desk.specs.Desk.{Register, Contents, Told, with_put, Fails, PutsPart, StaysOut}
 use Rattle.vs_top.specs.declared.outcome.Outcome.{Outcome}
 use Rattle.vs_top.specs.declared.outcome.Outcome.TheVariants.{Done, Ordered, WriteFault}
 use Rattle.vs_top.specs.Outcomes.{outcome_line}
@@ -9,11 +9,13 @@ use Rattle.vs_top.specs.Outcomes.{outcome_line}
 pub record PutsLine {tells : Bool} (old new : Told tells) (line : List ℕ) : Type 0 where
   pub same : new.register ≡ old.register
   pub put : IsTrue tells → new.contents ≡ with_put old.register old.contents 0 line
+  pub out : StaysOut old new 0
 
 -- A call at place 0 failed, and some first bytes of it were put, not all.
 pub record LosesLine {tells : Bool} (old new : Told tells) (line : List ℕ) : Type 0 where
   pub failed : Fails old.register new.register 0 old.register.asked
   pub put : IsTrue tells → PutsPart old.register old.contents new.contents 0 line
+  pub out : StaysOut old new 0
 
 -- it was put whole, or lost
 abbrev pub ReportsLine : {tells : Bool} → Told tells → Told tells → List ℕ → Type 0
@@ -28,6 +30,7 @@ PutsBoth register old new first second =
 pub record LosesBoth {tells : Bool} (old new : Told tells) (first second : List ℕ) : Type 0 where
   pub failed : Fails old.register new.register 0 old.register.asked
   pub put : IsTrue tells → PutsBoth old.register old.contents new.contents first second
+  pub out : StaysOut old new 0
 
 -- the fact, where the run is done, or a check, or a run of the queue
 abbrev pub OnDone : Outcome → Type 0 → Type 0

@@ -1,7 +1,9 @@
 -- How a job ended, and what was reported of it.
-use Rattle.std.specs.Prelude.{◌≡◌, Bool, ℕ, List, ◌++◌}
+use Rattle.std.specs.Prelude.{◌≡◌, ◌≢◌, Bool, ℕ, List, ◌++◌, length}
 use Rattle.vs_desk.specs.Desk.{Told}
+use Rattle.vs_waves.specs.Puts.{AreOut}
 use Rattle.vs_job.specs.declared.job.Job.{Job}
+use Rattle.vs_job.specs.declared.job.Mode.TheVariants as modes
 use Rattle.vs_top.specs.declared.outcome.Outcome.{Outcome}
 use Rattle.vs_top.specs.Outcomes.{outcome_line}
 use Rattle.vs_top.specs.Reported.{OnDone, OnStopped, ReportsDone, ReportsLine}
@@ -25,3 +27,7 @@ pub record IsSimulated {tells : Bool} {D : Type 0} (told : D → Told tells) (jo
   -- every other outcome stays, whether its line was put or lost
   pub stopped : OnStopped outcome (result ≡ outcome)
   pub stopped_line : OnStopped outcome (ReportsLine (told middle) (told new) (lines ++ outcome_line outcome))
+
+-- where a run is done, or a run of the queue, nothing that was put of a waveform is kept back
+abbrev pub IsOut : {tells : Bool} → Job → Told tells → Outcome → Type 0
+IsOut job new result = OnDone result (job.mode ≢ modes.Check → AreOut new (length job.stimuli))

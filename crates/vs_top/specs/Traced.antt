@@ -6,7 +6,7 @@ use Rattle.vs_desk.specs.Desk.{Told, Fails, FailsAlone, Puts, PutsPart}
 use Rattle.vs_desk.specs.Places.{with_places, waveform_place}
 use Rattle.vs_feed.specs.Opened.{path_at}
 use Rattle.vs_waves.specs.Attached.{Empties}
-use Rattle.vs_waves.specs.Puts.{wave_place}
+use Rattle.vs_waves.specs.Puts.{AreOut, wave_place}
 use Rattle.vs_rounds.specs.Drives.{Vector}
 use Rattle.vs_ordered.specs.Traced.{AreValid, HasSteps, IsEveryDump}
 use Rattle.vs_job.specs.declared.job.Job.{Job}
@@ -45,11 +45,16 @@ pub record IsWaveAttached {tells : Bool} (paths : List (List ℕ)) (old new : To
   pub register_is : new.register ≡ with_places old.register (waveform_place 0) Write paths
   pub empty : IsTrue tells → Empties 1 old.contents new.contents
 
--- It was attached, and the text was put there whole.
+-- The text was put there whole, and nothing of it is kept back.
+pub record PutsWave {tells : Bool} (old new : Told tells) (text : List ℕ) : Type 0 where
+  pub put : Puts old new (wave_place 0) text
+  pub out : AreOut new 1
+
+-- It was attached, and the text was put there whole and written out.
 pub record IsWaveWritten {tells : Bool} (paths : List (List ℕ)) (text : List ℕ) (old new : Told tells) : Type 0 where
   pub middle : Told tells
   pub attached : IsWaveAttached paths old middle
-  pub put : Puts middle new (wave_place 0) text
+  pub put : PutsWave middle new text
 
 -- It couldn't be attached, or the text couldn't be written there.
 pub data IsWaveUnwritten {tells : Bool} (paths : List (List ℕ)) (text : List ℕ) (old new : Told tells) : Type 0 where

@@ -1,7 +1,6 @@
 //! A run of the event queue from its paths to its waveform.
 
 ghost use Rattle.std.specs.Prelude.{◌≡◌, ◌≤◌, [], None, IfErr, IfOk, OnErr, OnOk, length, map, string_bytes};
-ghost use Rattle.vs_desk.specs.Desk.{Puts};
 ghost use Rattle.vs_flat.specs.DesignOf.{design_of};
 ghost use Rattle.vs_reads.specs.Footprint.{footprints_of};
 ghost use Rattle.vs_queue.specs.Machines.{IsAcceptedBy};
@@ -12,7 +11,7 @@ ghost use Rattle.vs_job.specs.Places.{same_paths};
 ghost use Rattle.vs_waves.specs.Attached.{AreFree};
 ghost use Rattle.vs_waves.specs.Puts.{AreWritable, wave_place};
 ghost use Rattle.vs_top.specs.Ended.{IsEnd, IsUnused, queue_paths};
-ghost use Rattle.vs_top.specs.Traced.{IsTraceOf, IsTraced, IsWaveUnwritten, IsWaveWritten, WriteFails};
+ghost use Rattle.vs_top.specs.Traced.{IsTraceOf, IsTraced, IsWaveUnwritten, IsWaveWritten, PutsWave, WriteFails};
 
 use crate::errors::{setup_outcome, stop_outcome};
 use crate::outcome::{Course, Outcome};
@@ -160,7 +159,7 @@ fn write_wave<D: Desk>(desk: &mut D, paths: Vec<String>, text: &[u8]) -> Result<
 /// It fails where a call there failed.
 fn put_wave<D: Desk>(desk: &mut D, text: &[u8]) -> Result<(), Failed>
     requires writable { AreWritable (D.told desk.old).register 1 }
-    ensures put { OnOk result (Puts (D.told desk.old) (D.told desk.new) (wave_place 0) text.now) }
+    ensures put { OnOk result (PutsWave (D.told desk.old) (D.told desk.new) text.now) }
     ensures failed { OnErr result (WriteFails (D.told desk.old) (D.told desk.new) (wave_place 0) text.now) }
 {
     let put = put_all(desk, FIRST_WAVEFORM, text);

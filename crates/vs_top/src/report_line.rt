@@ -1,7 +1,7 @@
 //! The report line.
 
 ghost use Rattle.std.specs.Prelude.{◌≡◌, []};
-ghost use Rattle.vs_desk.specs.Desk.{PutsAll};
+ghost use Rattle.vs_desk.specs.Desk.{PutsReport};
 ghost use Rattle.vs_top.specs.declared.outcome.Outcome.TheVariants.{WriteFault};
 ghost use Rattle.vs_top.specs.Outcomes.{outcome_line, done_ending, ordered_ending};
 ghost use Rattle.vs_top.specs.Reported.{ReportsLine, ReportsDone, OnDone, OnStopped};
@@ -51,7 +51,7 @@ fn ordered_ending(course: &Course) -> Ending
 
 /// Puts an outcome's line at place 0.
 pub(crate) fn put_line<D: Desk>(desk: &mut D, outcome: &Outcome) -> Result<(), Failed>
-    ensures { PutsAll (D.told desk.old) (D.told desk.new) 0 (outcome_line outcome.now) result }
+    ensures { PutsReport (D.told desk.old) (D.told desk.new) (outcome_line outcome.now) result }
 {
     match outcome {
         Outcome::Done(summary) => done_ending(summary).put_line(desk),

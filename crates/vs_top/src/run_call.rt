@@ -18,7 +18,7 @@ ghost use Rattle.vs_top.specs.Benched.{IsBenched};
 ghost use Rattle.vs_top.specs.Causes.{IsDoneOrMemory, IsFaultless, IsLawful, ShowsCause};
 ghost use Rattle.vs_top.specs.Ended.{IsUnused, OthersAttached};
 ghost use Rattle.vs_top.specs.Refused.{IsRefusedJob, IsRefusedSo};
-ghost use Rattle.vs_top.specs.Reports.{IsSimulated, IsReported};
+ghost use Rattle.vs_top.specs.Reports.{IsSimulated, IsReported, IsOut};
 ghost use Rattle.vs_top.specs.Headline.{IsWritten};
 ghost use Rattle.vs_top.specs.Ordered.{IsOrdered};
 ghost use Rattle.vs_top.specs.Checked.{IsVerdict};
@@ -65,6 +65,7 @@ pub fn simulate<D: Desk, L: Ledger>(
     ensures ordered { IsTrue D.tells → (c : Course) → result ≡ Ordered c → IsOrdered job.now (D.told desk.old).contents (D.told desk.new).contents c }
     ensures order { (c : Course) → result ≡ Ordered c → (job.now.mode ≡ modes.Queue c.order) × (steps.new ≡ steps.old) }
     ensures others { OthersAttached (D.told desk.old).register (D.told desk.new).register }
+    ensures out { IsOut job.now (D.told desk.new) result }
 {
     let answered = answer_job(alloc, job, desk, steps);
     answered.outcome
@@ -93,6 +94,7 @@ fn answer_job<D: Desk, L: Ledger>(
     ensures ordered { IsTrue D.tells → (c : Course) → result.outcome ≡ Ordered c → IsOrdered job.now (D.told desk.old).contents (D.told desk.new).contents c }
     ensures order { (c : Course) → result.outcome ≡ Ordered c → (job.now.mode ≡ modes.Queue c.order) × (steps.new ≡ steps.old) }
     ensures others { OthersAttached (D.told desk.old).register (D.told desk.new).register }
+    ensures out { IsOut job.now (D.told desk.new) result.outcome }
     ensures answered { IsAnswered D.told job.now desk.old desk.new result.outcome result.found.items }
     ensures few { length result.found.items ≤ most_lanes }
 {
@@ -190,6 +192,9 @@ pub fn run<D: Desk, L: Ledger>(
     // Places that are none of a job's stay as they were.
     ensures others { OthersAttached (D.told desk.old).register (D.told desk.new).register }
 
+    // Nothing that was put of a waveform is kept back.
+    ensures out { (j : Job) → job (map string_bytes words.now) ≡ Some j → IsOut j (D.told desk.new) result }
+
     // And where no call on the desk fails, nothing but want of memory keeps a refused job from its refusal, or a lawful job from its end.
     ensures refused { IsTrue D.tells → (j : Job) → job (map string_bytes words.now) ≡ Some j → (q : Refusal) → IsRefusedJob j (D.told desk.old).contents q
         → IsFaultless (D.told desk.old) (D.told desk.new) → IsRefusedSo q result }
@@ -231,6 +236,9 @@ pub fn answer<D: Desk, L: Ledger>(
 
     // Places that are none of a job's stay as they were.
     ensures others { OthersAttached (D.told desk.old).register (D.told desk.new).register }
+
+    // Nothing that was put of a waveform is kept back.
+    ensures out { (j : Job) → job (map string_bytes words.now) ≡ Some j → IsOut j (D.told desk.new) result.outcome }
 
     // And where no call on the desk fails, nothing but want of memory keeps a refused job from its refusal, or a lawful job from its end.
     ensures refused { IsTrue D.tells → (j : Job) → job (map string_bytes words.now) ≡ Some j → (q : Refusal) → IsRefusedJob j (D.told desk.old).contents q

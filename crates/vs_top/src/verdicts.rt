@@ -1,7 +1,7 @@
 //! The lines of a check, before its report line.
 
 ghost use Rattle.std.specs.Prelude.{◌≡◌, ◌<◌, ◌++◌, Some, length};
-ghost use Rattle.vs_desk.specs.Desk.{PutsAll};
+ghost use Rattle.vs_desk.specs.Desk.{PutsReport};
 ghost use Rattle.vs_misses.specs.Watch.{found_at};
 ghost use Rattle.vs_top.specs.Outcomes.{outcome_line};
 ghost use Rattle.vs_top.specs.Reported.{OnDone, OnStopped, ReportsDone, ReportsLine};
@@ -16,7 +16,7 @@ use vs_refusal::Miss;
 
 /// Puts the line of what a lane missed.
 fn put_finding<D: Desk>(desk: &mut D, lane: u32, finding: &Finding) -> Result<(), Failed>
-    ensures { PutsAll (D.told desk.old) (D.told desk.new) 0 (miss_text lane (Some finding.now)) result }
+    ensures { PutsReport (D.told desk.old) (D.told desk.new) (miss_text lane (Some finding.now)) result }
 {
     let wanted = finding.wanted();
     let got = finding.got();
@@ -33,7 +33,7 @@ fn put_finding<D: Desk>(desk: &mut D, lane: u32, finding: &Finding) -> Result<()
 /// Puts the line of a lane, if it missed something.
 fn put_lane<W: Lanes, D: Desk>(desk: &mut D, misses: &Misses<W>, lane: u32) -> Result<(), Failed>
     requires { lane < length misses.now.found }
-    ensures { PutsAll (D.told desk.old) (D.told desk.new) 0 (miss_text lane (found_at misses.now.found lane)) result }
+    ensures { PutsReport (D.told desk.old) (D.told desk.new) (miss_text lane (found_at misses.now.found lane)) result }
 {
     put_law();
     match misses.found(lane) {
@@ -45,7 +45,7 @@ fn put_lane<W: Lanes, D: Desk>(desk: &mut D, misses: &Misses<W>, lane: u32) -> R
 /// Puts the lines of all lanes that missed something, by lane.
 fn put_misses<W: Lanes, D: Desk>(desk: &mut D, misses: &Misses<W>, lanes: u32) -> Result<(), Failed>
     requires { length misses.now.found ≡ lanes }
-    ensures { PutsAll (D.told desk.old) (D.told desk.new) 0 (misses_text misses.now.found) result }
+    ensures { PutsReport (D.told desk.old) (D.told desk.new) (misses_text misses.now.found) result }
 {
     put_law();
     for lane in 0..lanes {
@@ -62,7 +62,7 @@ fn put_verdicts<W: Lanes, D: Desk>(
     outcome: &Outcome,
 ) -> Result<(), Failed>
     requires { length misses.now.found ≡ lanes }
-    ensures { PutsAll (D.told desk.old) (D.told desk.new) 0 (misses_text misses.now.found ++ outcome_line outcome.now) result }
+    ensures { PutsReport (D.told desk.old) (D.told desk.new) (misses_text misses.now.found ++ outcome_line outcome.now) result }
 {
     put_law();
     put_misses(desk, misses, lanes)?;

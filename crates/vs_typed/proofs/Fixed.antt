@@ -68,7 +68,7 @@ items_of_none (Item e es) n h =
 mutual
   still_in : (s : Statement) → statement_calls s ≡ false → statement_signals s ≡ [] → is_still s ≡ true
   still_in Empty n h = refl
-  still_in (Assignment place target e blocking) n h =
+  still_in (Assignment place target e blocking delay) n h =
       let k = neither (target_signals target) (read_signals e) h in
       and_true (has_constant_selects target) (is_constant e) (selects_of target (no_left (target_calls target) (calls e) n) k.0) (constant_of e (no_right (target_calls target) (calls e) n) k.1)
   still_in (Then first rest) n h =
@@ -150,7 +150,7 @@ IsFixed signals call constant = (signals ≡ []) × (call ≡ false) × (constan
 mutual
   still_fixed : (s : Statement) → is_still s ≡ true → IsFixed (statement_signals s) (statement_calls s) (are_constant s)
   still_fixed Empty h = (refl, refl, refl)
-  still_fixed (Assignment place target e blocking) h =
+  still_fixed (Assignment place target e blocking delay) h =
       let p = and_both (has_constant_selects target) (is_constant e) h in
       let q = two_quiet (target_signals target) (read_signals e) (target_calls target) (calls e) (selects_quiet target p.0) (constant_quiet e p.1) in
       (q.0, q.1, p.0)

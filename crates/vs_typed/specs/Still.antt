@@ -11,7 +11,7 @@ items_still (Item e es) = is_constant e && items_still es
 abbrev mutual
   pub is_still : Statement → Bool
   is_still Empty = true
-  is_still (Assignment place target e blocking) = has_constant_selects target && is_constant e
+  is_still (Assignment place target e blocking delay) = has_constant_selects target && is_constant e
   is_still (Then first rest) = is_still first && is_still rest
   is_still (If c taken other) = is_constant c && (is_still taken && is_still other)
   is_still (Case kind subject arms) = is_constant subject && arms_still arms

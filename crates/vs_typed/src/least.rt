@@ -121,11 +121,7 @@ pub(crate) fn least_statement(
 {
     match statement_in(shapes, table.len(), s) {
         Statement::Empty => best,
-        Statement::Assign {
-            target,
-            expr,
-            blocking: _,
-        } => {
+        Statement::Assign { target, expr, .. } => {
             let at = statement_place(shapes, s);
             least_assignment(shapes, rule, table, *target, *expr, at, best)
         }

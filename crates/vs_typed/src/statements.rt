@@ -99,11 +99,9 @@ pub(crate) fn add_statement(
 {
     match fit_statement(shapes, table.len(), s) {
         Statement::Empty => Ok(total),
-        Statement::Assign {
-            target,
-            expr,
-            blocking: _,
-        } => Ok(add_assignment(shapes, table, *target, *expr, total)),
+        Statement::Assign { target, expr, .. } => Ok(add_assignment(
+            shapes, table, *target, *expr, total,
+        )),
         Statement::If { c, yes, no } => {
             let written = written_count(alloc, shapes, s)?;
             let own = plus(as_operand(shapes, table.len(), *c).width, written);

@@ -5,4 +5,4 @@ mod ends;
 mod writes;
 
 pub use ends::Ends;
-pub use writes::{Effect, Update, Write, last_of_each, write_all};
+pub use writes::{Delayed, Effect, Update, Write, last_of_each, write_all};

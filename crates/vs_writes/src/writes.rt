@@ -90,11 +90,57 @@ impl Update {
     }
 }
 
-/// What a run of a statement does: its blocking writes, and its nonblocking updates, each in the order of the statements (IEEE 1364-2005, 9.2.1 and 9.2.2).
+/// An update that comes so many units of time after the run that gives it (IEEE 1364-2005, 9.2.2 and 9.7.7).
+#[derive(Drop)]
+pub struct Delayed {
+    delay: u32,
+    update: Update,
+}
+
+impl Model for Delayed {
+    ghost use Rattle.vs_net.specs.Network as N;
+
+    ghost Value = { N.Delayed };
+
+    ghost view = { λ d. record { delay = d.delay; update = d.update } };
+}
+
+impl Delayed {
+    /// This update after this delay.
+    pub fn new(delay: u32, update: Update) -> Delayed
+        ensures { result ≡ record { delay = delay; update = update } }
+    {
+        Delayed { delay, update }
+    }
+
+    /// The units of time until it comes.
+    pub fn delay(&self) -> u32
+        ensures { result ≡ self.now.delay }
+    {
+        self.delay
+    }
+
+    /// Its writes in their order.
+    pub fn as_slice(&self) -> &[Write]
+        ensures { result.now ≡ self.now.update }
+    {
+        self.update.as_slice()
+    }
+
+    /// The delay and the update, taken out.
+    pub fn into_parts(self) -> (u32, Update)
+        ensures delay { result.0 ≡ self.delay }
+        ensures update { result.1 ≡ self.update }
+    {
+        (self.delay, self.update)
+    }
+}
+
+/// What a run of a statement does: its blocking writes, and its nonblocking updates with their delays, each in the order of the statements (IEEE 1364-2005, 9.2.1 and 9.2.2).
 #[derive(Drop)]
 pub struct Effect {
     writes: Vec<Write>,
-    updates: Vec<Update>,
+    updates: Vec<Delayed>,
 }
 
 impl Model for Effect {
@@ -123,15 +169,15 @@ impl Effect {
         self.writes.as_slice()
     }
 
-    /// The nonblocking updates in their order.
-    pub fn updates(&self) -> &[Update]
+    /// The nonblocking updates with their delays, in their order.
+    pub fn updates(&self) -> &[Delayed]
         ensures { result.now ≡ self.now.updates }
     {
         self.updates.as_slice()
     }
 
     /// The blocking writes and the nonblocking updates, each in their order, taken out.
-    pub fn into_parts(self) -> (Vec<Write>, Vec<Update>)
+    pub fn into_parts(self) -> (Vec<Write>, Vec<Delayed>)
         ensures writes { result.0.items ≡ self.writes }
         ensures updates { result.1.items ≡ self.updates }
     {
@@ -140,16 +186,16 @@ impl Effect {
 
     /// With the blocking writes of one assignment more.
     pub fn add_writes(&mut self, writes: &[Write]) -> Result<(), AllocError>
-        ensures { OnOk result (self.new ≡ both_effects self.old (effect_of true writes.now)) }
+        ensures { OnOk result ((delay : ℕ) → self.new ≡ both_effects self.old (effect_of true delay writes.now)) }
     {
         push_all(&mut self.writes, writes)
     }
 
-    /// With one nonblocking update more.
-    pub fn add_update(&mut self, update: Update) -> Result<(), AllocError>
-        ensures { OnOk result (self.new ≡ both_effects self.old (effect_of false update)) }
+    /// With one nonblocking update more, after this delay.
+    pub fn add_update(&mut self, delay: u32, update: Update) -> Result<(), AllocError>
+        ensures { OnOk result (self.new ≡ both_effects self.old (effect_of false delay update)) }
     {
-        self.updates.push(update)?;
+        self.updates.push(Delayed::new(delay, update))?;
         Ok(())
     }
 }

@@ -1,18 +1,16 @@
 -- Statements that read no signal, and what they do.
-use Rattle.std.proofs.Common.{◌≡◌, ℕ, zero, suc, ◌+◌, ◌<◌, Bool, true, false, List, [], ◌∷◌, ◌++◌, length, map, drop, get_or, Option, Some, refl, sym, ap, ◌∙◌, subst, arith}
+use Rattle.std.proofs.Common.{◌≡◌, ℕ, zero, suc, ◌<◌, Bool, true, false, List, [], ◌∷◌, ◌++◌, length, map, drop, get_or, Option, Some, refl, ap, ◌∙◌, subst, arith}
 use Rattle.std.specs.Prelude.{not, ◌||◌, ◌&&◌, slice_index, if◌then◌else◌}
-use mathlib.Core.Bool.{beq}
-use Rattle.std.proofs.lemmas.List.{drop_more}
 use Rattle.vs_four.specs.Logic.{BitList}
-use Rattle.vs_net.specs.Network.{State, Write, Update, Effect, write_all, flatten}
+use Rattle.vs_net.specs.Network.{State}
 use Rattle.vs_design.specs.Expressions.{Signal, OfSignal, OfConstant, Expression, Literal, Name, Select, Word, WordPart, Unary, Binary, Choice, Join, Repeat, At, Call, Items, NoItem, Item, items_of, is_constant}
 use Rattle.vs_design.specs.Statements.{Target, Whole, PartOf, WordOf, WordPartOf, Both, CaseKind, Statement, Empty, Assignment, Then, If, Case, Arms, Arm, Default}
-use Rattle.vs_design.specs.Bodies.{assignment_writes, body, arms_body, is_taken}
+use Rattle.vs_design.specs.Bodies.{body, is_taken}
 use Rattle.vs_design.specs.Calls.{calls, items_call, target_calls, statement_calls, arms_call}
 use Rattle.vs_design.specs.Elaborated.{has_constant_selects}
 use Rattle.vs_design.specs.Fits.{is_fit, fit_items, fits_target, fits_statement, fits_arms}
 use Rattle.vs_design.specs.Footprints.{contains, read_bits, target_reads, items_reads, statement_reads, arms_reads, read_signals, target_signals, items_signals, statement_signals, arms_signals}
-use Rattle.vs_design.specs.Resets.{has_none, are_constant, arms_constant, is_fixed, branch_writes, branch_updates}
+use Rattle.vs_design.specs.Resets.{has_none, are_constant, arms_constant, is_fixed}
 use Rattle.vs_design.specs.TreeLaws.{BodyReads}
 use Rattle.vs_flat.specs.declared.statements.Arm as F
 use Rattle.vs_flat.specs.Arena.{Arena}
@@ -20,10 +18,9 @@ use Rattle.vs_flat.specs.Trees as R
 use Rattle.vs_sets.specs.Nodes.{tree_of}
 use Rattle.vs_sets.specs.StatementParts.{BranchBelow, ArmsBelow, arms_of, statement_of}
 use Rattle.vs_typed.specs.Still.{items_still}
-use Rattle.vs_zero.specs.Constants.{arms_are_constants, taken_arm, IsFixed, part_of, given, branch_effects, IsFixedBranch, EachIsFixed}
+use Rattle.vs_zero.specs.Constants.{arms_are_constants, taken_arm, IsFixed, IsFixedBranch, EachIsFixed}
 use Rattle.vs_zero.specs.States.{unknown}
 use Rattle.vs_sets.proofs.Fit.{and_left, and_right, and_both}
-use Rattle.vs_zero.proofs.Writing.{write_all-append}
 
 -- ---- no signals
 
@@ -110,9 +107,9 @@ pub record FixedAssign (target : Target) (e : Expression) : Type 0 where
   pub fits : fits_target target ≡ true
   pub fit : is_fit e ≡ true
 
-pub fixed_assign : (place : ℕ) (target : Target) (e : Expression) (blocking : Bool) → IsFixed (Assignment place target e blocking) → FixedAssign target e
-fixed_assign place target e blocking h =
-    let parts = parts_of (Assignment place target e blocking) h.fixed in
+pub fixed_assign : (place : ℕ) (target : Target) (e : Expression) (blocking : Bool) (delay : ℕ) → IsFixed (Assignment place target e blocking delay) → FixedAssign target e
+fixed_assign place target e blocking delay h =
+    let parts = parts_of (Assignment place target e blocking delay) h.fixed in
     record {
       selects = parts.selects;
       constant = constant_by e (not_right (target_calls target) (calls e) parts.no_calls) (none_right (target_signals target) (read_signals e) parts.signals);
@@ -261,7 +258,7 @@ target_read (Both high low) h = both_nil (target_reads high) (target_reads low) 
 mutual
   statement_read : (s : Statement) → has_none (statement_signals s) ≡ true → statement_reads s ≡ []
   statement_read Empty h = refl
-  statement_read (Assignment place target e blocking) h = both_nil (target_reads target) (read_bits e) (target_read target (none_left (target_signals target) (read_signals e) h)) (expression_reads e (none_right (target_signals target) (read_signals e) h))
+  statement_read (Assignment place target e blocking delay) h = both_nil (target_reads target) (read_bits e) (target_read target (none_left (target_signals target) (read_signals e) h)) (expression_reads e (none_right (target_signals target) (read_signals e) h))
   statement_read (Then first rest) h =
       both_nil (statement_reads first) (statement_reads rest) (statement_read first (none_left (statement_signals first) (statement_signals rest) h)) (statement_read rest (none_right (statement_signals first) (statement_signals rest) h))
   statement_read (If c taken other) h =
@@ -281,72 +278,11 @@ pub fixed_reads : (s : Statement) → IsFixed s → statement_reads s ≡ []
 fixed_reads s h = statement_read s (parts_of s h.fixed).signals
 
 -- so what they do is the same in every state
-same_anywhere : BodyReads → (s : Statement) → statement_reads s ≡ [] → (t u : State) → body s t ≡ body s u
+pub same_anywhere : BodyReads → (s : Statement) → statement_reads s ≡ [] → (t u : State) → body s t ≡ body s u
 same_anywhere law s none t u = law s t u (λ b h. absurd (nothing b (subst (λ bs. contains bs b ≡ true) none h)))
   where
     nothing : (b : ℕ) → contains [] b ≡ true → ⊥
     nothing b h = cc
-
--- ---- what they do
-
-pub given_nothing : (p : Bool) (s : State) → given p Empty s ≡ s
-unfolding write_all flatten
-given_nothing true s = refl
-given_nothing false s = refl
-
-append_nothing : (ws : List Write) → ws ++ [] ≡ ws
-append_nothing [] = refl
-append_nothing (w ∷ ws) = ap (λ xs. w ∷ xs) (append_nothing ws)
-
-pub given_assigned : (p : Bool) (place : ℕ) (target : Target) (e : Expression) (blocking : Bool) (s : State) → beq blocking p ≡ true → given p (Assignment place target e blocking) s ≡ write_all s (assignment_writes target e unknown)
-unfolding flatten
-given_assigned true place target e true s h = refl
-given_assigned true place target e false s h = absurd (let z : ⊥ = cc in z)
-given_assigned false place target e true s h = absurd (let z : ⊥ = cc in z)
-given_assigned false place target e false s h = ap (write_all s) (append_nothing (assignment_writes target e unknown))
-
-pub given_other : (p : Bool) (place : ℕ) (target : Target) (e : Expression) (blocking : Bool) (s : State) → beq blocking p ≡ false → given p (Assignment place target e blocking) s ≡ s
-unfolding write_all flatten
-given_other true place target e true s h = absurd (let z : ⊥ = cc in z)
-given_other true place target e false s h = refl
-given_other false place target e true s h = refl
-given_other false place target e false s h = absurd (let z : ⊥ = cc in z)
-
-flat_both : (us vs : List Update) → flatten (us ++ vs) ≡ flatten us ++ flatten vs
-unfolding flatten
-flat_both [] vs = refl
-flat_both (u ∷ us) vs = ap (λ ws. u ++ ws) (flat_both us vs) ∙ sym (assoc u (flatten us) (flatten vs))
-  where
-    assoc : (xs ys zs : List Write) → (xs ++ ys) ++ zs ≡ xs ++ (ys ++ zs)
-    assoc [] ys zs = refl
-    assoc (x ∷ xs) ys zs = ap (λ ws. x ∷ ws) (assoc xs ys zs)
-
-given_then : BodyReads → (first rest : Statement) → statement_reads rest ≡ [] → (p : Bool) (s : State) → given p (Then first rest) s ≡ given p rest (given p first s)
-given_then law first rest none true s =
-    let done = body first unknown in
-    ap (λ (f : Effect). write_all s (done.writes ++ f.writes)) (same_anywhere law rest none (write_all unknown done.writes) unknown)
-    ∙ write_all-append done.writes (body rest unknown).writes s
-given_then law first rest none false s =
-    let done = body first unknown in
-    ap (λ (f : Effect). write_all s (flatten (done.updates ++ f.updates))) (same_anywhere law rest none (write_all unknown done.writes) unknown)
-    ∙ ap (write_all s) (flat_both done.updates (body rest unknown).updates)
-    ∙ write_all-append (flatten done.updates) (flatten (body rest unknown).updates) s
-
-pub given_arms : (a : Arena) (p : Bool) (kind : CaseKind) (w : ℕ) (g : Bool) (v : BitList) (other : Option ℕ) (arms : List F.Arm) (s : State)
-    → write_all s (part_of p (arms_body (arms_of a other arms) kind w g v unknown)) ≡ given p (R.branch (statement_of a) (taken_arm (tree_of a) kind w g v other arms)) s
-given_arms a p kind w g v other [] s = refl
-given_arms a p kind w g v other (arm ∷ arms) s = go (is_taken kind w g v (items_of (map (tree_of a) arm.items)) unknown) (given_arms a p kind w g v other arms s)
-  where
-    go : (t : Bool) → write_all s (part_of p (arms_body (arms_of a other arms) kind w g v unknown)) ≡ given p (R.branch (statement_of a) (taken_arm (tree_of a) kind w g v other arms)) s
-        → write_all s (part_of p (if t then body (statement_of a arm.statement) unknown else arms_body (arms_of a other arms) kind w g v unknown))
-        ≡ given p (R.branch (statement_of a) (if t then Some arm.statement else taken_arm (tree_of a) kind w g v other arms)) s
-    go true k = refl
-    go false k = k
-
--- first what is written at once, and then the updates
-pub given_both : (st : Statement) (s : State) → given false st (given true st s) ≡ write_all s (flatten (branch_effects st))
-unfolding flatten
-given_both st s = sym (write_all-append (branch_writes st) (flatten (branch_updates st)) s)
 
 -- ---- sequences
 
@@ -365,17 +301,7 @@ whole_reads st [] h = refl
 whole_reads st (p ∷ []) h = h 0 (omega arith)
 whole_reads st (p ∷ q ∷ parts) h = both_nil (statement_reads (st p)) (statement_reads (R.sequence (map st (q ∷ parts)))) (h 0 (omega arith)) (whole_reads st (q ∷ parts) (λ k l. h (suc k) (omega (arith, l))))
 
-reads_from : (st : ℕ → Statement) (parts : List ℕ) (n : ℕ) → ((k : ℕ) → k < length parts → statement_reads (st (get_or parts k 0)) ≡ []) → statement_reads (R.sequence (map st (drop n parts))) ≡ []
+pub reads_from : (st : ℕ → Statement) (parts : List ℕ) (n : ℕ) → ((k : ℕ) → k < length parts → statement_reads (st (get_or parts k 0)) ≡ []) → statement_reads (R.sequence (map st (drop n parts))) ≡ []
 reads_from st parts zero h = whole_reads st parts h
 reads_from st [] (suc n) h = refl
 reads_from st (p ∷ parts) (suc n) h = reads_from st parts n (λ k l. h (suc k) (omega (arith, l)))
-
-sequence_step : BodyReads → (p : Bool) (s : Statement) (ss : List Statement) (state : State) → statement_reads (R.sequence ss) ≡ [] → given p (R.sequence (s ∷ ss)) state ≡ given p (R.sequence ss) (given p s state)
-sequence_step law p s [] state none = sym (given_nothing p (given p s state))
-sequence_step law p s (t ∷ ss) state none = given_then law s (R.sequence (t ∷ ss)) none p state
-
-pub parts_step : BodyReads → (p : Bool) (st : ℕ → Statement) (parts : List ℕ) (k : ℕ) (state : State) → k < length parts → ((j : ℕ) → j < length parts → IsFixed (st (get_or parts j 0)))
-    → given p (R.sequence (map st (drop k parts))) state ≡ given p (R.sequence (map st (drop (k + 1) parts))) (given p (st (get_or parts k 0)) state)
-parts_step law p st parts k state h each =
-    ap (λ ps. given p (R.sequence (map st ps)) state) (drop_more parts k 0 h)
-    ∙ sequence_step law p (st (get_or parts k 0)) (map st (drop (k + 1) parts)) state (reads_from st parts (k + 1) (λ j l. fixed_reads (st (get_or parts j 0)) (each j l)))

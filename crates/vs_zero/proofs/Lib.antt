@@ -4,6 +4,8 @@ pub mod CaseSteps
 pub mod Below
 pub mod PartWrites
 pub mod Fixing
+pub mod Taking
+pub mod Sorting
 pub mod Valued
 pub mod Updating
 pub mod Sourcing

@@ -45,7 +45,7 @@ branch_facts d clocks (Always place star events s) t h fit = by_events (events_o
   where
     by_statement : (r : Event) (s : Statement) → reset_branch r.edge r.signal.first s ≡ Some t → fits_statement s ≡ true → IsFixed t × ((b : ℕ) → contains (statement_bits t) b ≡ true → contains (statement_bits s) b ≡ true)
     by_statement r Empty h f = cc
-    by_statement r (Assignment place target e blocking) h f = cc
+    by_statement r (Assignment place target e blocking delay) h f = cc
     by_statement r (Then first rest) h f = cc
     by_statement r (Case kind subject arms) h f = cc
     by_statement r (If c taken other) h f = at (is_condition r.edge r.signal.first c && is_fixed taken) refl h where

@@ -1,5 +1,5 @@
 -- What initial processes leave, one after the other.
-use Rattle.std.proofs.Common.{◌≡◌, ℕ, zero, suc, ◌+◌, ◌<◌, Bool, true, false, not, List, [], ◌∷◌, ◌++◌, map, take, length, if◌then◌else◌, refl, sym, ap, ap₂, ◌∙◌, subst, arith, get_or, Option, Some, None}
+use Rattle.std.proofs.Common.{◌≡◌, ℕ, zero, suc, ◌+◌, ◌<◌, Bool, true, false, not, List, [], ◌∷◌, ◌++◌, map, take, length, if◌then◌else◌, refl, sym, ap, ap₂, ◌∙◌, subst, arith, get_or, Option, Some, None, ◌||◌}
 use Rattle.std.specs.Prelude.{slice_get}
 use Rattle.std.specs.List.{list_all, flat_map}
 use mathlib.Core.Path.{fun_ext}
@@ -18,6 +18,7 @@ use Rattle.vs_design.specs.Resets.{is_fixed}
 use Rattle.vs_design.specs.Footprints.{contains, net_bits}
 use Rattle.vs_design.specs.Lifted.{Family}
 use Rattle.vs_design.specs.Sets.{Set4, only}
+use Rattle.vs_design.specs.Delays.{has_delays}
 use Rattle.vs_sets.specs.Tables.{beyond, family_of}
 use Rattle.vs_design.proofs.Exactly.{otherwise_none}
 use Rattle.vs_design.proofs.TextOrder.{by_sort, initials_pass}
@@ -40,7 +41,7 @@ any_fixed : (d : Design) (x : AnyProcess) → block_refusal_at d x ≡ None → 
 any_fixed d (OfProcess p process) h = refl
 any_fixed d (OfInitial k i) h = go (is_fixed i.statement) h
   where
-    go : (c : Bool) → where_true (not c) (InitialForm k i.place) ≡ None → c ≡ true
+    go : (c : Bool) → where_true (not c || has_delays i.statement) (InitialForm k i.place) ≡ None → c ≡ true
     go true h = refl
     go false h = cc
 

@@ -5,7 +5,7 @@ use Rattle.vs_design.specs.Expressions.{Expression, items_of}
 use Rattle.vs_net.specs.Network.{State, Write, Update, Effect, flatten, write_all}
 use Rattle.vs_design.specs.Footprints.{contains, statement_bits, target_bits}
 use Rattle.vs_design.specs.Statements.{CaseKind, Target, Statement, Arms, Arm, Default}
-use Rattle.vs_design.specs.Bodies.{body, is_taken}
+use Rattle.vs_design.specs.Bodies.{body, is_taken, updates_in}
 use Rattle.vs_design.specs.Fits.{fits_statement}
 use Rattle.vs_design.specs.Resets.{is_fixed, branch_writes, branch_updates}
 use Rattle.vs_flat.specs.Arena.{Arena}
@@ -32,10 +32,10 @@ pub record IsFixed (s : Statement) : Type 0 where
   pub fixed : is_fixed s ≡ true
   pub fits : fits_statement s ≡ true
 
--- what an effect writes at once, or by its updates
+-- what an effect writes at once, or by its updates, in the order in which they come
 abbrev pub part_of : (at_once : Bool) → Effect → List Write
 part_of true effect = effect.writes
-part_of false effect = flatten effect.updates
+part_of false effect = flatten (updates_in effect)
 
 -- the state after what the statement writes so
 abbrev pub given : (at_once : Bool) → Statement → State → State

@@ -4,4 +4,5 @@ pub mod Refused
 pub mod Sources
 pub mod Starts
 pub mod States
+pub mod Taken
 pub mod Values

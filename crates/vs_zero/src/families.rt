@@ -1,6 +1,6 @@
 //! The early and the late sets of all bits at time zero.
 
-ghost use Rattle.std.specs.Prelude.{◌≡◌, [], ◌∷◌, None, Some, true, length, IfOk};
+ghost use Rattle.std.specs.Prelude.{◌≡◌, [], ◌∷◌, None, Some, true, length, IfOk, OnOk};
 ghost use Rattle.vs_design.specs.Designs.{bit_count};
 ghost use Rattle.vs_design.specs.Levels.{is_level_order};
 ghost use Rattle.vs_design.specs.Refusals.{block_refusal};
@@ -38,13 +38,14 @@ pub(crate) struct Families {
 
 /// Lets each bit have the values too that the resets of all processes give it last.
 fn add_resets(
+    alloc: Global,
     typed: &Typed,
     footprints: &Footprints,
     clocks: &Clocks,
     from_x: &mut [Bit4],
     from_zero: &mut [Bit4],
     table: &mut [Set4],
-)
+) -> Result<(), AllocError>
     requires covers { length table.old ≡ bit_count (design_of typed.now) }
     requires x_count { length from_x.old ≡ length table.old }
     requires zero_count { length from_zero.old ≡ length table.old }
@@ -53,7 +54,7 @@ fn add_resets(
     requires resets { AreResets typed.now clocks.now }
     requires x { state_of from_x.old ≡ unknown }
     requires zero { IsZero from_zero.old }
-    ensures { family_of table.new ≡ (λ b. with_resets (design_of typed.now) clocks.now.bits (design_of typed.now).processes b (family_of table.old b)) }
+    ensures { OnOk result (family_of table.new ≡ (λ b. with_resets (design_of typed.now) clocks.now.bits (design_of typed.now).processes b (family_of table.old b))) }
 {
     trees_law();
     fits_law();
@@ -64,11 +65,13 @@ fn add_resets(
         match clocks.reset(p) {
             Some(reset) => {
                 let bits = footprints.writes(p);
-                add_values(typed.shapes(), reset.branch, bits, from_x, from_zero, table);
+                let shapes = typed.shapes();
+                add_values(alloc, shapes, reset.branch, bits, from_x, from_zero, table)?;
             }
             None => {}
         }
     }
+    Ok(())
 }
 
 /// Gives a clock 0 alone, where it is one of the bits of the table.
@@ -109,13 +112,14 @@ fn late_sources(
     let mut from_x = vec![in alloc; Bit4::X; count]?;
     let mut from_zero = vec![in alloc; Bit4::Zero; count]?;
     add_resets(
+        alloc,
         typed,
         footprints,
         clocks,
         from_x.as_mut_slice(),
         from_zero.as_mut_slice(),
         table.as_mut_slice(),
-    );
+    )?;
     fill_kind(
         shapes,
         SignalKind::Input,

@@ -12,6 +12,7 @@ mod sources;
 mod starts;
 mod targets;
 mod turns;
+mod updates;
 mod values;
 mod written;
 mod zero;

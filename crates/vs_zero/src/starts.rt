@@ -1,6 +1,6 @@
 //! What initial processes leave in the bits (IEEE 1364-2005, 9.9.1), and the sets of bits that no assign and no combinational block writes.
 
-ghost use Rattle.std.specs.Prelude.{◌≡◌, ◌<◌, None, Some, length, map, slice_get, IfOk};
+ghost use Rattle.std.specs.Prelude.{◌≡◌, ◌<◌, None, Some, length, map, slice_get, IfOk, OnOk};
 ghost use Rattle.vs_design.specs.Designs as D;
 ghost use Rattle.vs_design.specs.Initials as I;
 ghost use Rattle.vs_design.specs.Initials.{first_value, start_value};
@@ -53,30 +53,49 @@ fn idle_values(alloc: Global, typed: &Typed) -> Result<Vec<Bit4>, AllocError>
 }
 
 /// Lets initial process k write what it writes by `=`, or else by `<=`.
-fn run_initial(typed: &Typed, k: u32, at_once: bool, values: &mut [Bit4])
+fn run_initial(
+    alloc: Global,
+    typed: &Typed,
+    k: u32,
+    at_once: bool,
+    values: &mut [Bit4],
+) -> Result<(), AllocError>
     requires covers { length values.old ≡ D.bit_count (design_of typed.now) }
     requires blocks { block_refusal (design_of typed.now) ≡ None }
     requires there { k < length typed.now.initials }
-    ensures { (i : D.Initial) → slice_get (design_of typed.now).initials k ≡ Some i → state_of values.new ≡ given at_once i.statement (state_of values.old) }
+    ensures { OnOk result ((i : D.Initial) → slice_get (design_of typed.now).initials k ≡ Some i → state_of values.new ≡ given at_once i.statement (state_of values.old)) }
 {
     trees_law();
     fits_law();
     within_law();
     let _flat = typed.flat();
     let shapes = typed.shapes();
-    run_part(shapes, fit_initial(shapes, k).statement, at_once, values);
+    run_part(
+        alloc,
+        shapes,
+        fit_initial(shapes, k).statement,
+        at_once,
+        values,
+    )?;
+    Ok(())
 }
 
 /// Lets all initial processes write so, in the order of the text.
-fn run_initials(typed: &Typed, at_once: bool, values: &mut [Bit4])
+fn run_initials(
+    alloc: Global,
+    typed: &Typed,
+    at_once: bool,
+    values: &mut [Bit4],
+) -> Result<(), AllocError>
     requires covers { length values.old ≡ D.bit_count (design_of typed.now) }
     requires blocks { block_refusal (design_of typed.now) ≡ None }
-    ensures { state_of values.new ≡ started at_once (design_of typed.now).initials (state_of values.old) }
+    ensures { OnOk result (state_of values.new ≡ started at_once (design_of typed.now).initials (state_of values.old)) }
 {
     trees_law();
     for k in 0..typed.flat().initial_count() {
-        run_initial(typed, k, at_once, values);
+        run_initial(alloc, typed, k, at_once, values)?;
     }
+    Ok(())
 }
 
 /// The values before the first activation of updates: what initial processes write by `=`.
@@ -86,7 +105,7 @@ fn first_values(alloc: Global, typed: &Typed) -> Result<Vec<Bit4>, AllocError>
     ensures values { IfOk result (λ v. state_of v.items ≡ first_value (design_of typed.now)) }
 {
     let mut values = idle_values(alloc, typed)?;
-    run_initials(typed, true, values.as_mut_slice());
+    run_initials(alloc, typed, true, values.as_mut_slice())?;
     Ok(values)
 }
 
@@ -97,7 +116,7 @@ pub fn start_values(alloc: Global, typed: &Typed) -> Result<Vec<Bit4>, AllocErro
     ensures values { IfOk result (λ v. state_of v.items ≡ start_value (design_of typed.now)) }
 {
     let mut values = first_values(alloc, typed)?;
-    run_initials(typed, false, values.as_mut_slice());
+    run_initials(alloc, typed, false, values.as_mut_slice())?;
     Ok(values)
 }
 

@@ -1,6 +1,6 @@
 //! The sets of bits with the values that a reset gives them (IEEE 1364-2005, 9.2.2 and 9.7.2).
 
-ghost use Rattle.std.specs.Prelude.{◌≡◌, ◌<◌, length, All};
+ghost use Rattle.std.specs.Prelude.{◌≡◌, ◌<◌, length, All, OnOk};
 ghost use Rattle.vs_four.specs.declared.Bit4.TheVariants.{Zero};
 ghost use Rattle.vs_four.specs.Tables.{same as are_same};
 ghost use Rattle.vs_net.specs.Network.{flatten};
@@ -14,6 +14,7 @@ ghost use Rattle.vs_zero.specs.States.{state_of, unknown};
 ghost use Rattle.vs_zero.specs.Values.{IsZero, joined, replaced_by, with_updates};
 
 use crate::fixed::run;
+use std::alloc::{AllocError, Global};
 use vs_design::write_law;
 use vs_four::Bit4;
 use vs_sets::Set4;
@@ -67,13 +68,14 @@ pub(crate) fn reset_bits(state: &mut [Bit4], bits: &[u32], value: Bit4)
 
 /// Lets each bit have the value too that a branch gives it last that reads no signal. It is what both states have after the branch, where it began with x in one and 0 in the other. The bits are all that the branch writes, or more; afterwards both states are as before.
 pub(crate) fn add_values(
+    alloc: Global,
     shapes: &Shapes,
     branch: u32,
     bits: &[u32],
     from_x: &mut [Bit4],
     from_zero: &mut [Bit4],
     table: &mut [Set4],
-)
+) -> Result<(), AllocError>
     requires covers { length table.old ≡ bit_count (design_of shapes.now) }
     requires x_count { length from_x.old ≡ length table.old }
     requires zero_count { length from_zero.old ≡ length table.old }
@@ -83,14 +85,15 @@ pub(crate) fn add_values(
     requires bits { Covers bits.now (statement_of shapes.now branch) }
     requires x { state_of from_x.old ≡ unknown }
     requires zero { IsZero from_zero.old }
-    ensures table { family_of table.new ≡ (λ b. with_updates (flatten (branch_effects (statement_of shapes.now branch))) b (family_of table.old b)) }
-    ensures x { state_of from_x.new ≡ unknown }
-    ensures zero { IsZero from_zero.new }
+    ensures table { OnOk result (family_of table.new ≡ (λ b. with_updates (flatten (branch_effects (statement_of shapes.now branch))) b (family_of table.old b))) }
+    ensures x { OnOk result (state_of from_x.new ≡ unknown) }
+    ensures zero { OnOk result (IsZero from_zero.new) }
 {
     write_law();
-    run(shapes, branch, from_x);
-    run(shapes, branch, from_zero);
+    run(alloc, shapes, branch, from_x)?;
+    run(alloc, shapes, branch, from_zero)?;
     join(bits, from_x, from_zero, table);
     reset_bits(from_x, bits, Bit4::X);
     reset_bits(from_zero, bits, Bit4::Zero);
+    Ok(())
 }

@@ -60,8 +60,9 @@ pub fn add_written(
     ensures zero { OnOk result (IsZero from_zero.new) }
 {
     write_law();
-    run(shapes, branch, from_x);
-    run(shapes, branch, from_zero);
+    let alloc = *to.allocator();
+    run(alloc, shapes, branch, from_x)?;
+    run(alloc, shapes, branch, from_zero)?;
     add_same(bits, from_x, from_zero, to)?;
     reset_bits(from_x, bits, Bit4::X);
     reset_bits(from_zero, bits, Bit4::Zero);

@@ -626,8 +626,8 @@ statements::Runner::assign-returns-then-blocking t c =
     let state = state_of c.args.values.now in
     let ws = B.assignment_writes (target_tree (tree_of a c.args.target)) (tree_of a c.args.e) state in
     record {
-      effect = on_ok c.add_writes.result c.add_writes.ensures (λ e. e ∙ ap₂ (λ b us. B.both_effects c.args.done.now (B.effect_of b us)) (sym c.if-blocking.true) (c.as_slice-then-blocking.ensures ∙ c.in_ok-update.ensures));
-      state = always c.add_writes.result (c.write_all.ensures ∙ ap (write_all state) (c.as_slice.ensures ∙ c.in_ok-update.ensures) ∙ ap (λ b. write_all state (B.effect_of b ws).writes) (sym c.if-blocking.true));
+      effect = on_ok c.add_writes.result c.add_writes.ensures (λ e. e c.args.delay ∙ ap₂ (λ b us. B.both_effects c.args.done.now (B.effect_of b c.args.delay us)) (sym c.if-blocking.true) (c.as_slice-then-blocking.ensures ∙ c.in_ok-update.ensures));
+      state = always c.add_writes.result (c.write_all.ensures ∙ ap (write_all state) (c.as_slice.ensures ∙ c.in_ok-update.ensures) ∙ ap (λ b. write_all state (B.effect_of b c.args.delay ws).writes) (sym c.if-blocking.true));
     }
 
 pub statements::Runner::assign-returns-else-blocking : goal.statements::Runner::assign-returns-else-blocking
@@ -636,8 +636,8 @@ statements::Runner::assign-returns-else-blocking t c =
     let state = state_of c.args.values.now in
     let ws = B.assignment_writes (target_tree (tree_of a c.args.target)) (tree_of a c.args.e) state in
     record {
-      effect = on_ok c.add_update.result c.add_update.ensures (λ e. e ∙ ap₂ (λ b us. B.both_effects c.args.done.now (B.effect_of b us)) (sym c.if-blocking.false) c.in_ok-update.ensures);
-      state = always c.add_update.result (waits c.args.blocking state ws c.if-blocking.false);
+      effect = on_ok c.add_update.result c.add_update.ensures (λ e. e ∙ ap₂ (λ b us. B.both_effects c.args.done.now (B.effect_of b c.args.delay us)) (sym c.if-blocking.false) c.in_ok-update.ensures);
+      state = always c.add_update.result (waits c.args.blocking c.args.delay state ws c.if-blocking.false);
     }
 
 pub statements::Runner::run-returns-in-Empty : goal.statements::Runner::run-returns-in-Empty

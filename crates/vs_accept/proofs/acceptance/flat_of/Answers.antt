@@ -11,6 +11,6 @@ flatten_by-requires c =
     (tokens_are c.tokens_law.ensures c.kept_law.ensures c.args.places.now.text.now c.args.places.now.tokens.now c.requires.reads) c.requires.spelled
 
 pub returns-in-Err-clause-refused : goal.returns-in-Err-clause-refused
-returns-in-Err-clause-refused c = λ top clocks e.
+returns-in-Err-clause-refused c = λ top clocks half e.
     let source = view.source c.args.source.now in
-    c.elab_error.ensures source top clocks c.requires (subst (λ (name : Option (List ℕ)). IsElabError (elaborated_by source name) c.in-Err.error) e c.in-Err.ensures.broken)
+    c.elab_error.ensures source top clocks half c.requires (subst (λ (name : Option (List ℕ)). IsElabError (elaborated_by source name) c.in-Err.error) e c.in-Err.ensures.broken)

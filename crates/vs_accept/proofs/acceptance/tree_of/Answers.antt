@@ -9,4 +9,4 @@ pub returns-in-Ok-clause-read : goal.returns-in-Ok-clause-read
 returns-in-Ok-clause-read c = read_by c.args.places.now.text.now c.args.places.now.tokens.now (view.source c.in-Ok.source) c.requires c.in-Ok.ensures.found
 
 pub returns-in-Err-clause-refused : goal.returns-in-Err-clause-refused
-returns-in-Err-clause-refused c = λ top clocks. c.tree_error.ensures top clocks c.requires c.in-Err.ensures.fault
+returns-in-Err-clause-refused c = λ top clocks half. c.tree_error.ensures top clocks half c.requires c.in-Err.ensures.fault

@@ -109,7 +109,7 @@ walk-returns-in_ok-note_assignment-in-Assign-clause-walked t c =
     let tree = c.statement_of.ensures.done complete ∙ ap (λ (n : Statement). tree_with a (done complete a) c.statement_of.result.1 (node_done complete a n)) c.in-Assign.is in
     if_ok c.newly_assigned.result c.newly_assigned.ensures
     (λ v f. walked_as c.args.own.now _ _ _ _ c.args.early.now c.note_assignment.new.early v.items (sym tree) refl
-    (assignment_walked c.args.own.now c.statement_of.result.1 (target_tree (tree_of a c.in-Assign.target)) (tree_of a c.in-Assign.expr) c.in-Assign.blocking c.args.assigned.now c.args.early.now c.note_assignment.new.early v.items
+    (assignment_walked c.args.own.now c.statement_of.result.1 (target_tree (tree_of a c.in-Assign.target)) (tree_of a c.in-Assign.expr) c.in-Assign.blocking c.in-Assign.delay c.args.assigned.now c.args.early.now c.note_assignment.new.early v.items
     c.in_ok-note_assignment-in-Assign.ensures f))
 
 pub walk-returns-in_ok-other-in-If-clause-walked : goal.walk-returns-in_ok-other-in-If-clause-walked

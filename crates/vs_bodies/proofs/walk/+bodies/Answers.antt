@@ -51,13 +51,19 @@ pub walk-assignment_told-requires-clause-target : goal.walk-assignment_told-requ
 walk-assignment_told-requires-clause-target g t c =
     let find = within (g.S.Surroundings.declared c.args.here.now.around.now) c.args.here.now.layers.now (g.S.Env.names c.args.here.now.around.now) in
     let body = body_of c.args.how.kind c.args.how.unrolls (g.S.Surroundings.declared c.args.here.now.around.now) in
-    (assignment_shaped c.args.how.in_loop body find c.args.s.now c.in-Assignment.target c.in-Assignment.value c.in-Assignment.blocking c.in-Assignment.is c.requires.shaped).0
+    (assignment_shaped c.args.how.in_loop body find c.args.s.now c.in-Assignment.target c.in-Assignment.value c.in-Assignment.blocking c.in-Assignment.delay c.in-Assignment.is c.requires.shaped).0
 
 pub walk-assignment_told-requires-clause-value : goal.walk-assignment_told-requires-clause-value
 walk-assignment_told-requires-clause-value g t c =
     let find = within (g.S.Surroundings.declared c.args.here.now.around.now) c.args.here.now.layers.now (g.S.Env.names c.args.here.now.around.now) in
     let body = body_of c.args.how.kind c.args.how.unrolls (g.S.Surroundings.declared c.args.here.now.around.now) in
-    (assignment_shaped c.args.how.in_loop body find c.args.s.now c.in-Assignment.target c.in-Assignment.value c.in-Assignment.blocking c.in-Assignment.is c.requires.shaped).1
+    (assignment_shaped c.args.how.in_loop body find c.args.s.now c.in-Assignment.target c.in-Assignment.value c.in-Assignment.blocking c.in-Assignment.delay c.in-Assignment.is c.requires.shaped).1
+
+pub walk-assignment_told-requires-clause-after : goal.walk-assignment_told-requires-clause-after
+walk-assignment_told-requires-clause-after g t c =
+    let find = within (g.S.Surroundings.declared c.args.here.now.around.now) c.args.here.now.layers.now (g.S.Env.names c.args.here.now.around.now) in
+    let body = body_of c.args.how.kind c.args.how.unrolls (g.S.Surroundings.declared c.args.here.now.around.now) in
+    (assignment_shaped c.args.how.in_loop body find c.args.s.now c.in-Assignment.target c.in-Assignment.value c.in-Assignment.blocking c.in-Assignment.delay c.in-Assignment.is c.requires.shaped).2
 
 pub walk-counted-requires-in-Assignment : goal.walk-counted-requires-in-Assignment
 walk-counted-requires-in-Assignment g t c =
@@ -67,13 +73,13 @@ pub walk-returns-in_ok-said-in-Assignment-clause-told : goal.walk-returns-in_ok-
 walk-returns-in_ok-said-in-Assignment-clause-told g t c =
     let find = within (g.S.Surroundings.declared c.args.here.now.around.now) c.args.here.now.layers.now (g.S.Env.names c.args.here.now.around.now) in
     let body = body_of c.args.how.kind c.args.how.unrolls (g.S.Surroundings.declared c.args.here.now.around.now) in
-    assigned_told c.args.how.in_loop body find c.args.s.now c.in-Assignment.target c.in-Assignment.value c.in-Assignment.blocking c.in_ok-said-in-Assignment.said c.counted-in-Assignment.result c.in-Assignment.is (c.in_ok-said-in-Assignment.ensures c.args.how.unrolls (g.S.Surroundings.declared c.args.here.now.around.now)) c.counted-in-Assignment.ensures.told
+    assigned_told c.args.how.in_loop body find c.args.s.now c.in-Assignment.target c.in-Assignment.value c.in-Assignment.blocking c.in-Assignment.delay c.in_ok-said-in-Assignment.said c.counted-in-Assignment.result c.in-Assignment.is (c.in_ok-said-in-Assignment.ensures c.args.how.unrolls (g.S.Surroundings.declared c.args.here.now.around.now)) c.counted-in-Assignment.ensures.told
 
 pub walk-returns-in_ok-said-in-Assignment-clause-over : goal.walk-returns-in_ok-said-in-Assignment-clause-over
 walk-returns-in_ok-said-in-Assignment-clause-over g t c =
     let find = within (g.S.Surroundings.declared c.args.here.now.around.now) c.args.here.now.layers.now (g.S.Env.names c.args.here.now.around.now) in
     let body = body_of c.args.how.kind c.args.how.unrolls (g.S.Surroundings.declared c.args.here.now.around.now) in
-    assigned_over c.args.how.in_loop body find c.args.s.now c.in-Assignment.target c.in-Assignment.value c.in-Assignment.blocking c.args.left c.counted-in-Assignment.result c.in-Assignment.is c.counted-in-Assignment.ensures.over
+    assigned_over c.args.how.in_loop body find c.args.s.now c.in-Assignment.target c.in-Assignment.value c.in-Assignment.blocking c.in-Assignment.delay c.args.left c.counted-in-Assignment.result c.in-Assignment.is c.counted-in-Assignment.ensures.over
 
 pub walk-walk-requires : goal.walk-walk-requires
 walk-walk-requires g t c κs within_all =

@@ -1,7 +1,6 @@
 use Rattle.std.proofs.Common.{◌≡◌, ◌+◌, ◌<◌, ℕ, None, List, Option, [], length, take, drop, get_or, replicate, refl, rules, sym, ap, ◌∙◌, subst}
 use Rattle.std.proofs.lemmas.List.{length-replicate, take_all}
 use Rattle.vs_design.specs.Designs.{Design}
-use Rattle.vs_design.specs.Footprints.{contains}
 use Rattle.vs_clock.specs.Roots.{AreAllTargets, AreRoots, AreClosed}
 use Rattle.vs_clock.specs.Spread.{Spreads}
 use Rattle.vs_reads.proofs.Tests.{member_at}

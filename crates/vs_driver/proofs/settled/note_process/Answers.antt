@@ -13,7 +13,8 @@ use Rattle.vs_reads.proofs.ByKind.{kind_is}
 use Rattle.vs_reads.proofs.FitKinds.{edges_of, block_fits}
 use Rattle.vs_reads.proofs.Told.{told, below_length}
 use Rattle.vs_shape.specs.Bodies.{body_of}
-use Rattle.vs_driver.proofs.Settling.{blocking_written, settled_noted, stirring_noted}
+use Rattle.vs_driver.proofs.Marking.{blocking_written}
+use Rattle.vs_driver.proofs.Settling.{settled_noted, stirring_noted}
 use Rattle.vs_driver.proofs.settled.note_process.Goals as goal
 
 pub fit_process-requires-clause-fits : goal.fit_process-requires-clause-fits

@@ -21,7 +21,7 @@ tell-requires-clause-least c =
     let same = ap (λ (y : Arena). bit_count y.signals) c.flat-flat.ensures.same in
     let within : bit < D.bit_count d = omega (arith, c.loop-bit-test.true, c.count_bits-bit-end.ensures, counts.bits, same) in
     let driven = c.drivers_at-drivers.ensures ∙ ap (λ ds. drivers_at ds bit) c.as_slice.ensures.value in
-    let flagged = sym (ap (λ e. are_two e || clash starts settled bit) driven) ∙ sym c.is_refused.ensures in
+    let flagged = sym (ap (λ e. are_two e || clash e starts settled bit) driven) ∙ sym c.is_refused.ensures in
     least_refused law d bit (sym (told_at law d table starts settled c.in_ok-table.ensures c.in_ok-starts.ensures c.in_ok-settled.ensures bit within) ∙ flagged ∙ c.if-is_refused.true)
     (λ b l. sym (told_at law d table starts settled c.in_ok-table.ensures c.in_ok-starts.ensures c.in_ok-settled.ensures b (omega (arith, l, within))) ∙ c.loop-bit.invariant b l)
 
@@ -45,8 +45,8 @@ loop-bit-preserved c =
     let settled = c.in_ok-settled.settled in
     let bit = c.loop-bit.bit in
     let driven = c.drivers_at-drivers.ensures ∙ ap (λ ds. drivers_at ds bit) c.as_slice.ensures.value in
-    none_more (λ b. are_two (drivers_at c.in_ok-table.table.items b) || clash starts settled b) bit
-    (sym (ap (λ e. are_two e || clash starts settled bit) driven) ∙ sym c.is_refused.ensures ∙ c.if-is_refused.false) c.loop-bit.invariant
+    none_more (λ b. are_two (drivers_at c.in_ok-table.table.items b) || clash (drivers_at c.in_ok-table.table.items b) starts settled b) bit
+    (sym (ap (λ e. are_two e || clash e starts settled bit) driven) ∙ sym c.is_refused.ensures ∙ c.if-is_refused.false) c.loop-bit.invariant
 
 pub returns-clause-single : goal.returns-clause-single
 returns-clause-single c =

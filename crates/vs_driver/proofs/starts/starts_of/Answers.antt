@@ -9,9 +9,11 @@ loop-k-init c = record {
   all_once = c.in_ok-no_marks.ensures.all;
   all_twice = c.in_ok-no_marks-2.ensures.all;
   all_late = c.in_ok-no_marks-3.ensures.all;
+  all_early = c.in_ok-no_marks-4.ensures.all;
   once = c.in_ok-no_marks.ensures.none;
   twice = c.in_ok-no_marks-2.ensures.none;
   late = c.in_ok-no_marks-3.ensures.none;
+  early = c.in_ok-no_marks-4.ensures.none;
 }
 
 pub returns : goal.returns

@@ -1,5 +1,5 @@
-use Rattle.vs_refusal.proofs.Chained.{put_then}
+use Rattle.vs_refusal.proofs.Chained.{all_then}
 use Rattle.vs_explanation.proofs.ended.put_file_fault.Goals as goal
 
 pub returns : goal.returns
-returns g c = put_then c.put_law.ensures.parts _ _ _ _ _ _ _ c.in_ok-put_path.ensures c.put_text.ensures
+returns g c = all_then c.put_law.ensures.parts _ _ _ _ _ _ _ c.in_ok-put_path.ensures c.put_text.ensures

@@ -28,14 +28,14 @@ store-requires c =
     R.later_env (subst (λ (n : ℕ). target_within n t ≡ true) (sym R.later_bits) R.target_names) (omega (arith, R.light, leaf_weights t)) (omega (arith, R.slots, leaf_weights t)) (omega (arith, R.few, leaf_weights t)) c.in_ok-leaves.ensures.adds
 
 pub returns-then-later-clause-adds : goal.returns-then-later-clause-adds
-returns-then-later-clause-adds c =
+returns-then-later-clause-adds c delay =
     let a = c.args.templates.now.arena in
     let t = target_tree (tree_at (arena_trees a) c.args.target) in
     let e = tree_at (arena_trees a) c.args.e in
     let R = c.requires.ready in
     let o = c.in_ok-leaves.field-0 in
-    subst (λ (b : Bool). AddsRun c.args.env.now.values c.args.env.now.ahead c.args.code.now c.store.new.code (λ (state : N.State). effect_of (not b) (assignment_writes t e state)) (if b then [] else target_bits t) (if b then target_bits t else []) (assign_most b t e) c.args.env.now.values c.store.new.env) (sym c.if-later.true)
-    (assigned_later a (length c.args.env.now.values) c.args.env.now.values c.args.env.now.ahead c.store.new.env c.args.code.now c.lower_operands.new.code c.store.new.code t e o.leaves.items o.at.items o.value.items c.in_ok-leaves.ensures.leaves
+    subst (λ (b : Bool). AddsRun c.args.env.now.values c.args.env.now.ahead c.args.code.now c.store.new.code (λ (state : N.State). effect_of (not b) delay (assignment_writes t e state)) (if b then [] else target_bits t) (if b then target_bits t else []) (assign_most b t e) c.args.env.now.values c.store.new.env) (sym c.if-later.true)
+    (assigned_later delay a (length c.args.env.now.values) c.args.env.now.values c.args.env.now.ahead c.store.new.env c.args.code.now c.lower_operands.new.code c.store.new.code t e o.leaves.items o.at.items o.value.items c.in_ok-leaves.ensures.leaves
     R.now_env R.later_env c.in_ok-leaves.ensures.sources c.in_ok-leaves.ensures.adds c.in_ok-store.ensures)
 
 pub owned-requires : goal.owned-requires
@@ -65,7 +65,7 @@ store-requires-2 c =
     R.now_env R.target_names (omega (arith, R.light, leaf_weights t)) (omega (arith, R.slots, leaf_weights t)) (omega (arith, R.few, leaf_weights t)) p.operands
 
 pub returns-clause-adds : goal.returns-clause-adds
-returns-clause-adds c =
+returns-clause-adds c delay =
     let a = c.args.templates.now.arena in
     let t = target_tree (tree_at (arena_trees a) c.args.target) in
     let e = tree_at (arena_trees a) c.args.e in
@@ -75,8 +75,8 @@ returns-clause-adds c =
     let q = subst (λ (m : ℕ). IsOwned m c.width-width.result o.value.items c.lower_operands.new.code c.owned.new.code own) c.next-mark.ensures c.in_ok-own.ensures in
     let p = owned_operands c.args.env.now.values c.args.code.now c.lower_operands.new.code c.owned.new.code t e (operands_weight t e) c.width-width.result o.at.items o.value.items own R.now_env
     (c.width-width.ensures ∙ width_of_fit_target (tree_at (arena_trees a) c.args.target) c.requires.is_target R.target_fits) R.target_fits (omega (arith, R.slots, leaf_weights t)) (omega (arith, R.few, leaf_weights t)) c.in_ok-leaves.ensures.adds q in
-    subst (λ (b : Bool). AddsRun c.args.env.now.values c.args.env.now.ahead c.args.code.now c.store-2.new.code (λ (state : N.State). effect_of (not b) (assignment_writes t e state)) (if b then [] else target_bits t) (if b then target_bits t else []) (assign_most b t e) c.store-2.new.env c.args.env.now.ahead) (sym c.if-later.false)
-    (assigned_now a (length c.args.env.now.values) c.args.env.now.values c.args.env.now.ahead c.store-2.new.env c.args.code.now c.owned.new.code c.store-2.new.code t e o.leaves.items o.at.items own c.in_ok-leaves.ensures.leaves
+    subst (λ (b : Bool). AddsRun c.args.env.now.values c.args.env.now.ahead c.args.code.now c.store-2.new.code (λ (state : N.State). effect_of (not b) delay (assignment_writes t e state)) (if b then [] else target_bits t) (if b then target_bits t else []) (assign_most b t e) c.store-2.new.env c.args.env.now.ahead) (sym c.if-later.false)
+    (assigned_now delay a (length c.args.env.now.values) c.args.env.now.values c.args.env.now.ahead c.store-2.new.env c.args.code.now c.owned.new.code c.store-2.new.code t e o.leaves.items o.at.items own c.in_ok-leaves.ensures.leaves
     R.now_env R.later_env p c.in_ok-store-2.ensures)
 
 pub returns-then-later-clause-sources : goal.returns-then-later-clause-sources

@@ -14,8 +14,8 @@ pub next_unless-requires-clause-ready : goal.next_unless-requires-clause-ready
 next_unless-requires-clause-ready c =
     subst (λ (m : ℕ). IsNextReady m c.args.code.now (body_of c.args.templates.now.arena c.args.s)) (sym c.requires.count) c.requires.ready
 
-pub returns-then-doubled : goal.returns-then-doubled
-returns-then-doubled c =
+pub returns-then-waiting : goal.returns-then-waiting
+returns-then-waiting c =
     subst (λ (m : ℕ). AddsNext m c.args.code.now c.next_unless.new.code (body_of c.args.templates.now.arena c.args.s) c.in_ok-next.next) c.requires.count c.in_ok-next.ensures
 
 pub statement-requires-clause-ready : goal.statement-requires-clause-ready
@@ -24,7 +24,7 @@ statement-requires-clause-ready c =
     let st = body_of c.args.templates.now.arena c.args.s in
     own_bits _ _ _ _ _
     (at_homes n c.args.count c.at_home.result c.at_home-2.result (λ (x y : List ℕ). IsStatementReady n x y c.args.code.now st) c.requires.count c.at_home.ensures c.at_home-2.ensures
-    (next_ready n c.args.code.now st c.requires.ready (c.in_ok-doubled.ensures c.if-doubled.false)))
+    (next_ready n c.args.code.now st c.requires.ready (c.in_ok-waiting.ensures.apart c.if-waiting.false)))
 
 pub statement-requires-clause-inside : goal.statement-requires-clause-inside
 statement-requires-clause-inside c b h =
@@ -50,4 +50,4 @@ returns c =
     let now1 = c.statement.new.env.values in
     let later1 = c.statement.new.env.ahead in
     let d = from_homes n c.args.count c.at_home.result c.at_home-2.result (λ (x y : List ℕ). AddsStatement x y c0 c1 st now1 later1) c.requires.count c.at_home.ensures c.at_home-2.ensures c.in_ok-statement.ensures in
-    adds_settled c.write_law.ensures.body n c0 c1 st now1 later1 c.settle.new.env.ahead c.requires.ready.fit (c.in_ok-doubled.ensures c.if-doubled.false) c.requires.ready.inside d c.in_ok-settle.ensures
+    adds_settled c.write_law.ensures.body n c0 c1 st now1 later1 c.settle.new.env.ahead c.requires.ready.fit (c.in_ok-waiting.ensures.apart c.if-waiting.false) c.requires.ready.inside (c.in_ok-waiting.ensures.order c.if-waiting.false) d c.in_ok-settle.ensures

@@ -448,8 +448,8 @@ statement-returns-in_ok-assign-in-Assign t c =
     let a = c.args.templates.now.arena in
     let tree = c.statement_of.ensures.tree ∙ ap (body_of_statement a (body_place a c.args.s)) c.in-Assign.is in
     subst (λ (x : T.Statement). AddsStatement c.args.env.now.values c.args.env.now.ahead c.args.code.now c.assign.new.code x c.assign.new.env.values c.assign.new.env.ahead) (sym tree)
-    (adds_assign c.args.env.now.values c.args.env.now.ahead c.args.code.now c.assign.new.code (body_place a c.args.s) (target_tree (tree_at (arena_trees a) c.in-Assign.target)) (tree_at (arena_trees a) c.in-Assign.expr) c.in-Assign.blocking c.assign.new.env.values c.assign.new.env.ahead
-    c.in_ok-assign-in-Assign.ensures.adds)
+    (adds_assign c.args.env.now.values c.args.env.now.ahead c.args.code.now c.assign.new.code (body_place a c.args.s) (target_tree (tree_at (arena_trees a) c.in-Assign.target)) (tree_at (arena_trees a) c.in-Assign.expr) c.in-Assign.blocking c.in-Assign.delay c.assign.new.env.values c.assign.new.env.ahead
+    (c.in_ok-assign-in-Assign.ensures.adds c.in-Assign.delay))
 
 pub statement-conditional-requires : goal.statement-conditional-requires
 statement-conditional-requires t c =

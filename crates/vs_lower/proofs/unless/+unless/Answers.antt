@@ -457,7 +457,7 @@ unless-assign_unless-requires-clause-ready t c place =
     let n = length c.args.env.now in
     let N = tree_at (arena_trees a) in
     let tree = c.statement_of.ensures.tree ∙ ap (body_of_statement a (body_place a c.args.s)) c.in-Assign.is in
-    any_place n (body_place a c.args.s) place c.args.env.now c.args.bar c.args.code.now (target_tree (N c.in-Assign.target)) (N c.in-Assign.expr) c.in-Assign.blocking
+    any_place n (body_place a c.args.s) place c.args.env.now c.args.bar c.args.code.now (target_tree (N c.in-Assign.target)) (N c.in-Assign.expr) c.in-Assign.blocking c.in-Assign.delay
     (subst (λ (x : T.Statement). IsUnlessReady n c.args.env.now c.args.bar c.args.code.now x) tree c.requires.ready)
 
 pub unless-returns-in-Assign-clause-adds : goal.unless-returns-in-Assign-clause-adds

@@ -36,7 +36,7 @@ lower_operands-requires-clause-names c =
 pub lower_operands-requires-clause-room : goal.lower_operands-requires-clause-room
 lower_operands-requires-clause-room c =
     let T = tree_at (arena_trees c.args.templates.now.arena) in
-    assign_room (length c.args.env.now) 0 c.args.env.now c.args.bar c.args.code.now (target_tree (T c.args.target)) (T c.args.e) c.args.blocking (c.requires.ready 0)
+    assign_room (length c.args.env.now) 0 c.args.env.now c.args.bar c.args.code.now (target_tree (T c.args.target)) (T c.args.e) c.args.blocking c.args.delay (c.requires.ready 0)
 
 pub write_unless-requires-clause-ready : goal.write_unless-requires-clause-ready
 write_unless-requires-clause-ready c =
@@ -45,7 +45,7 @@ write_unless-requires-clause-ready c =
     let o = c.in_ok-at.field-0 in
     let bar = c.args.bar in
     let one = c.lower_operands.new.code in
-    let r = assign_write (length c.args.env.now) 0 c.args.env.now bar c.args.code.now one t (T c.args.e) c.args.blocking o.at.items o.value.items (c.requires.ready 0) c.in_ok-at.ensures.adds in
+    let r = assign_write (length c.args.env.now) 0 c.args.env.now bar c.args.code.now one t (T c.args.e) c.args.blocking c.args.delay o.at.items o.value.items (c.requires.ready 0) c.in_ok-at.ensures.adds in
     subst (λ (x : List (List ℕ)). IsUnlessWriteReady c.args.env.now one t x c.as_slice-then-blocking.result.now bar) (sym c.as_slice.ensures.value)
     (subst (λ (x : List ℕ). IsUnlessWriteReady c.args.env.now one t o.at.items x bar) (sym c.as_slice-then-blocking.ensures.value) r)
 
@@ -66,8 +66,8 @@ returns-then-blocking-clause-adds c place =
     let us = c.args.updates.now.items in
     let w = subst (λ (x : List (List ℕ)). AddsUnlessWrite now now1 one two t x o.value.items bar) c.as_slice.ensures.value
     (subst (λ (x : List ℕ). AddsUnlessWrite now now1 one two t c.as_slice.result.now x bar) c.as_slice-then-blocking.ensures.value c.in_ok-write_unless.ensures) in
-    subst (λ (b : Bool). AddsUnlessStatement a now bar code two us us (Assignment place t e b) now1) (sym c.if-blocking.true)
-    (assigned_at_once a n place now bar now1 code one two us t e o.at.items o.value.items (subst (λ (b : Bool). IsUnlessReady n now bar code (Assignment place t e b)) c.if-blocking.true (c.requires.ready place)) c.in_ok-at.ensures.sources c.in_ok-at.ensures.adds w)
+    subst (λ (b : Bool). AddsUnlessStatement a now bar code two us us (Assignment place t e b c.args.delay) now1) (sym c.if-blocking.true)
+    (assigned_at_once c.args.delay a n place now bar now1 code one two us t e o.at.items o.value.items (subst (λ (b : Bool). IsUnlessReady n now bar code (Assignment place t e b c.args.delay)) c.if-blocking.true (c.requires.ready place)) c.in_ok-at.ensures.sources c.in_ok-at.ensures.adds w)
 
 pub returns-clause-adds : goal.returns-clause-adds
 returns-clause-adds c place =
@@ -82,8 +82,8 @@ returns-clause-adds c place =
     let code = c.args.code.now in
     let one = c.lower_operands.new.code in
     let us = c.args.updates.now.items in
-    subst (λ (b : Bool). AddsUnlessStatement a now bar code one us c.push.new.self.items (Assignment place t e b) now) (sym c.if-blocking.false)
-    (assigned_later a n place now bar code one us c.push.new.self.items _ t e o.at.items o.value.items (subst (λ (b : Bool). IsUnlessReady n now bar code (Assignment place t e b)) c.if-blocking.false (c.requires.ready place)) c.in_ok-at.ensures.sources c.in_ok-at.ensures.adds c.in_ok-push.ensures.items refl)
+    subst (λ (b : Bool). AddsUnlessStatement a now bar code one us c.push.new.self.items (Assignment place t e b c.args.delay) now) (sym c.if-blocking.false)
+    (assigned_later c.args.delay a n place now bar code one us c.push.new.self.items _ t e o.at.items o.value.items (subst (λ (b : Bool). IsUnlessReady n now bar code (Assignment place t e b c.args.delay)) c.if-blocking.false (c.requires.ready place)) c.in_ok-at.ensures.sources c.in_ok-at.ensures.adds c.in_ok-push.ensures.items refl)
 
 pub returns-clause-nodes : goal.returns-clause-nodes
 returns-clause-nodes c h =

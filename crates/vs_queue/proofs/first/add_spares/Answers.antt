@@ -1,4 +1,4 @@
-use Rattle.std.proofs.Common.{length-append, ap, length, ◌∙◌, arith}
+use Rattle.std.proofs.Common.{◌∙◌, arith}
 use Rattle.vs_queue.proofs.Spares.{state_more, long_more}
 use Rattle.vs_queue.proofs.first.add_spares.Goals as goal
 

@@ -1,4 +1,4 @@
-use Rattle.std.proofs.Common.{◌++◌, List, replicate, ap, ◌∙◌, ℕ, arith}
+use Rattle.std.proofs.Common.{◌++◌, replicate, ap, ◌∙◌, ℕ, arith}
 use Rattle.vs_flat.specs.DesignOf.{design_of}
 use Rattle.vs_events.specs.declared.beginning.Role.TheVariants as R
 use Rattle.vs_queue.specs.Beginnings.{roles_of}

@@ -1,4 +1,4 @@
-use Rattle.std.proofs.Common.{sym, ◌∙◌, refl, arith}
+use Rattle.std.proofs.Common.{refl, arith}
 use Rattle.vs_flat.specs.DesignOf.{design_of}
 use Rattle.vs_queue.proofs.Spares.{spare_here, spare_more, spare_nowhere}
 use Rattle.vs_queue.proofs.first.spare_clock.Goals as goal

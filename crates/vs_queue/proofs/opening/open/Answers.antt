@@ -63,6 +63,6 @@ returns-clause-start c = λ v later is.
     let k = c.args.machine.now.clocks.now in
     let roles = c.as_slice-2.ensures.value ∙ c.in_ok-roles.ensures ∙ ap₂ (λ (z : Arena) (b : List ℕ). all_roles (design_of z) b) c.flat.ensures.same c.bits-clocks.ensures in
     let first = c.in_ok-events.ensures ∙ ap (λ (rs : List Role). first_events rs c.args.values.items) roles in
-    ap (λ (e : Events). queue_of e (Rise ∷ slots_of later)) (c.in_ok-drive.ensures (Fall v) is)
+    ap (λ (e : Events). queue_of e 0 (Rise ∷ slots_of later)) (c.in_ok-drive.ensures (Fall v) is)
     ∙ begun_start (design_of a) k c.requires.machine.accepted c.slot_law.ensures.start v later c.args.values.items c.give_initial.new.events
     (subst (λ (x : Events). HasBegun (design_of a) k.bits x c.give_initial.new.events) first c.in_ok-give_initial.ensures)

@@ -2,7 +2,6 @@ use Rattle.std.proofs.Common.{◌∷◌, [], refl, ap, ◌∙◌}
 use Rattle.vs_net.specs.Queue.{Rise, start, slots_of}
 use Rattle.vs_design.specs.Networks.{network_of, idle_value}
 use Rattle.vs_flat.specs.DesignOf.{design_of}
-use Rattle.vs_events.specs.Held.{queue_of}
 use Rattle.vs_queue.specs.Ordered.{driven_bits, drawn_values, seed_after}
 use Rattle.vs_queue.specs.Spare.{value_count}
 use Rattle.vs_queue.proofs.Ending.{reached_as}
@@ -24,7 +23,7 @@ returns-clause-reached c = λ v later is.
     let n = network_of d k.bits in
     let seed = seed_after (driven_bits d) c.args.order in
     let from = start n (drawn_values (driven_bits d) c.args.order (idle_value d)) v later in
-    reached_as n from seed (queue_of c.in_ok-events.events (Rise ∷ slots_of later)) seed c.in_ok-values.seed [] c.new-ends.result 0 0 c.in_ok-values.ensures.seed c.new-ends.ensures refl
+    reached_as n from seed c.in_ok-events.events (Rise ∷ slots_of later) seed c.in_ok-values.seed [] c.new-ends.result 0 0 c.in_ok-values.ensures.seed c.new-ends.ensures refl
     (begun_reached d k c.requires.machine.accepted (drawn_values (driven_bits d) c.args.order (idle_value d)) v later seed c.in_ok-values.values.items c.in_ok-values.ensures.values c.in_ok-events.events (c.in_ok-events.ensures.start v later is))
 
 pub returns-clause-whole : goal.returns-clause-whole

@@ -4,9 +4,8 @@ use Rattle.vs_net.specs.Network.{State}
 use Rattle.vs_net.specs.LevelRun.{slot_sweeps}
 use Rattle.vs_net.specs.Queue.{Rise, start, slots_of}
 use Rattle.vs_design.specs.Networks.{network_of, idle_value}
-use Rattle.vs_events.specs.Held.{queue_of}
 use Rattle.vs_flat.specs.DesignOf.{design_of}
-use Rattle.vs_queue.specs.Levelled.{IsLevelled}
+use Rattle.vs_queue.specs.Levelled.{HasLevelled}
 use Rattle.vs_queue.specs.Ordered.{driven_bits, x_values}
 use Rattle.vs_queue.specs.Runs.{IsCopied}
 use Rattle.vs_queue.specs.Spare.{value_count}
@@ -31,7 +30,7 @@ returns-clause-whole c = whole_none (design_of c.args.machine.now.typed.now) c.a
 
 pub returns-clause-copied : goal.returns-clause-copied
 returns-clause-copied c =
-    subst (IsCopied (design_of c.args.machine.now.typed.now) c.args.machine.now.clocks.now.bits c.run_first_slot.new.events) (sym (seam c.in_ok-events.shadow.len c.run_first_slot.new.shadow _ (sym (c.run_first_slot.auto.shadow ∙ c.as_mut_slice.ensures.len)))) c.in_ok-run_first_slot.ensures.taken.copied
+    subst (IsCopied (design_of c.args.machine.now.typed.now) c.args.machine.now.clocks.now.bits c.run_first_slot.new.events) (sym (seam c.in_ok-events.shadow.len c.run_first_slot.new.shadow _ (sym (c.run_first_slot.auto.shadow ∙ c.as_mut_slice.ensures.len)))) c.in_ok-run_first_slot.ensures.passed.copied
 
 pub returns-clause-levelled : goal.returns-clause-levelled
 returns-clause-levelled c = λ v later is.
@@ -41,5 +40,5 @@ returns-clause-levelled c = λ v later is.
     let o = c.args.order.now in
     let values = x_values (driven_bits d) (idle_value d) in
     let begins = c.in_ok-events.ensures.start v later is ∙ ap (λ (s : State). start n s v later) c.in_ok-values.ensures.values in
-    subst (λ (vs : List (List Bit4)). IsLevelled n o (start n values v later) (queue_of c.run_first_slot.new.events (Rise ∷ slots_of later)) vs (slot_sweeps (Rise ∷ slots_of later))) (sym c.new-ends.ensures)
-    (first_over d k o c.in_ok-events.events c.run_first_slot.new.events c.run_first_slot.new.shadow values v later begins c.in_ok-run_first_slot.ensures.taken)
+    subst (λ (vs : List (List Bit4)). HasLevelled n o (start n values v later) c.run_first_slot.new.events (Rise ∷ slots_of later) vs (slot_sweeps (Rise ∷ slots_of later))) (sym c.new-ends.ensures)
+    (first_over d k o c.in_ok-events.events c.run_first_slot.new.events c.run_first_slot.new.shadow values v later begins c.in_ok-run_first_slot.ensures.passed)

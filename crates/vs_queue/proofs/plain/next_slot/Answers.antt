@@ -30,21 +30,21 @@ run_slot-requires-clause-spent c =
 
 pub returns-clause-copied : goal.returns-clause-copied
 returns-clause-copied c =
-    on_ok c.run_slot.result c.run_slot.ensures.taken (λ t.
+    on_ok c.run_slot.result c.run_slot.ensures.passed (λ t.
     subst (IsCopied (design_of c.args.machine.now.typed.now) c.args.machine.now.clocks.now.bits c.run_slot.new.events) (sym (seam c.args.run.now.shadow.len c.run_slot.new.shadow _ (sym (c.run_slot.auto.shadow ∙ c.as_mut_slice.ensures.len)))) t.copied)
 
 pub returns-clause-levelled : goal.returns-clause-levelled
 returns-clause-levelled c =
-    on_ok c.run_slot.result c.run_slot.ensures.taken (λ t slot is from slots.
+    on_ok c.run_slot.result c.run_slot.ensures.passed (λ t slot is from slots.
     let d = design_of c.args.machine.now.typed.now in
     let k = c.args.machine.now.clocks.now in
     let e = c.args.run.now.events in
     let ends = c.args.run.now.ends in
-    let next = next_is d k c.requires.machine.accepted c.slot_law.ensures.next e c.drive.new.events slot c.requires.copied.running c.requires.calm.rested (c.in_ok-drive.ensures slot is) slots in
-    slot_gone d k.bits c.args.order.now e c.drive.new.events c.run_slot.new.events c.run_slot.new.shadow from slot slots ends c.push.new.self next t (c.in_ok-push.ensures ∙ ap (λ (vs : List Bit4). ends ++ vs ∷ []) c.values.ensures))
+    let next = next_is d k c.requires.machine.accepted c.slot_law.ensures.next e c.drive.new.events slot c.requires.copied.running c.requires.calm.rested c.requires.calm.last (c.in_ok-drive.ensures slot is) in
+    slot_gone d k.bits c.args.order.now e c.drive.new.events c.run_slot.new.events c.run_slot.new.shadow from slot slots ends c.push.new.self (λ time. next time slots) t (c.in_ok-push.ensures ∙ ap (λ (vs : List Bit4). ends ++ vs ∷ []) c.values.ensures))
 
 pub returns-clause-whole : goal.returns-clause-whole
 returns-clause-whole c = λ count w.
     let run = c.args.run.now in
-    on_ok c.run_slot.result c.run_slot.ensures.taken (λ t.
+    on_ok c.run_slot.result c.run_slot.ensures.passed (λ t.
     whole_more (design_of c.args.machine.now.typed.now) c.args.machine.now.clocks.now.bits count run.ends c.push.new.self run.events.values w c.requires.copied.running.inside.values (c.in_ok-push.ensures ∙ ap (λ (vs : List Bit4). run.ends ++ vs ∷ []) c.values.ensures))

@@ -1,5 +1,4 @@
 use Rattle.std.proofs.Common.{◌+◌, sym, ap₂, ◌∙◌, arith}
-use Rattle.vs_flat.specs.DesignOf.{design_of}
 use Rattle.vs_queue.proofs.wires.value_count.Goals as goal
 
 pub overflow_add-result : goal.overflow_add-result

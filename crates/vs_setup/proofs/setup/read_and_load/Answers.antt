@@ -16,7 +16,7 @@ returns-clause-loaded g c =
     let job = c.args.job.now in
     let slice = c.as_slice.result.now in
     let behind : IsBehind tells job.head (joined_files old.files job.design job.others) slice = rw c.as_slice.ensures.value c.in_ok-text.ensures.text in
-    on_ok (λ l. IsLoaded (demands job.mode) slice job.top job.clocks l.accepted l.ports) (λ l. IsDesignLoaded tells job old l.accepted l.ports) c.load_text.result c.load_text.ensures.loaded
+    on_ok (λ l. IsLoaded (demands job.mode) slice job.top job.clocks job.half l.accepted l.ports) (λ l. IsDesignLoaded tells job old l.accepted l.ports) c.load_text.result c.load_text.ensures.loaded
     (λ l h. loaded_behind tells job old slice l.accepted l.ports behind h)
 
 pub returns-clause-unprepared : goal.returns-clause-unprepared
@@ -32,7 +32,7 @@ returns-clause-unprepared g c =
       short = subst (λ (xs : List ℕ). length xs ≤ most_bytes) (sym c.as_slice.ensures.value) c.in_ok-text.ensures.short;
       taken = c.in_ok-text.ensures.end;
     } in
-    on_err (IsLoadError (length job.head) slice job.top job.clocks) (IsUnprepared job old new) c.load_text.result c.load_text.ensures.refused
+    on_err (IsLoadError (length job.head) slice job.top job.clocks job.half) (IsUnprepared job old new) c.load_text.result c.load_text.ensures.refused
     (λ e load_error. unloaded job old new slice e load_error c.in_ok-text.ensures.register whole)
 
 pub returns-in_err-text-clause-unprepared : goal.returns-in_err-text-clause-unprepared

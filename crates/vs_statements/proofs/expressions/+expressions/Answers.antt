@@ -10,13 +10,13 @@ use Rattle.vs_statements.specs.Parts as part
 use Rattle.vs_statements.specs.Levels.{level_phrase, level_of}
 use Rattle.vs_statements.specs.Reading.{bytes_in, Measured, AnswersNested, Refused}
 use Rattle.vs_statements.specs.Reading.Refused.{out_of_memory}
-use Rattle.vs_statements.proofs.Places.{answer_exit, refused_memory, refused_var, refused_seq, refused_then, refused_missing, refused_level, refused_former, refused_latter, refused_more, refused_alone, read_tok, read_eps, read_var, read_seq, read_level, read_former, read_latter, read_alone, one_true, one_false, stood, ap2, ap3, took_kind, first_took, answer_more}
+use Rattle.vs_statements.proofs.Places.{answer_exit, refused_memory, refused_var, refused_seq, refused_then, refused_missing, refused_level, refused_former, refused_latter, refused_more, refused_alone, read_tok, read_eps, read_var, read_seq, read_level, read_former, read_latter, read_alone, one_true, one_false, stood, ap2, ap3, first_took, answer_more}
 use Rattle.vs_statements.proofs.Pairs.{ok_at, err_at}
 use Rattle.vs_statements.proofs.Arms.{listed_exprs, choice_made, replication_made, select_made}
 use Rattle.vs_statements.proofs.Firsts.{too_deep_first, stopped_first}
 use Rattle.vs_statements.proofs.Tables.{read_chosen}
 use Rattle.vs_statements.proofs.Lists.{shorter, not_back}
-use Rattle.vs_statements.proofs.Chains.{unary_is, measured, inner_fits, replicated, read_behind, refused_behind, too_deep_behind, operator_not_empty, chained_start, chained_more, chained_done, chained_refused_first, chained_refused, chained_too_deep, gathering_start, gathering_more, gathering_done}
+use Rattle.vs_statements.proofs.Chains.{unary_is, measured, replicated, read_behind, refused_behind, too_deep_behind, operator_not_empty, chained_start, chained_more, chained_done, chained_refused_first, chained_refused, chained_too_deep, gathering_start, gathering_more, gathering_done}
 use Rattle.vs_statements.proofs.expressions.+expressions.Goals as goal
 
 pub expression-returns-in_err-condition : goal.expression-returns-in_err-condition

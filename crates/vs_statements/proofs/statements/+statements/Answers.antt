@@ -11,7 +11,7 @@ use Rattle.vs_statements.proofs.Pairs.{ok_at, err_at}
 use Rattle.vs_statements.proofs.Places.{answer_exit, refused_memory, refused_kept, refused_var, refused_seq, refused_then, refused_missing, refused_level, refused_former, refused_latter, refused_more, refused_within, read_tok, read_eps, read_var, read_seq, read_level, read_former, read_latter, read_without, read_within, parsed, one_true, one_false, stood, ap2, ap3, ap5, answer_more}
 use Rattle.vs_statements.proofs.Firsts.{too_deep_first, stopped_first}
 use Rattle.vs_statements.proofs.Tables.{read_chosen}
-use Rattle.vs_statements.proofs.Lists.{shorter, listing_start, listing_more, listing_done, pushed_first, listing_from, listing_behind}
+use Rattle.vs_statements.proofs.Lists.{shorter, listing_start, listing_more, listing_done, listing_from, listing_behind}
 use Rattle.vs_grammar.specs.Grammars.Tree.{nothing}
 use Rattle.vs_statements.proofs.Arms.{statements_made, default_first, arms_alone, arms_around}
 use Rattle.vs_statements.proofs.statements.+statements.Goals as goal

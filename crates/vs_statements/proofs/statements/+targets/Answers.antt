@@ -1,12 +1,9 @@
 use Rattle.std.proofs.Common.{refl, sym, ◌∙◌, [], ◌∷◌}
 use Rattle.vs_grammar.specs.Verilog.{t}
-use Rattle.vs_statements.specs.declared.error.ParseError.TheVariants.{Memory}
 use Rattle.vs_statements.specs.Reading.{bytes_in}
-use Rattle.vs_statements.specs.Reading.Refused.{out_of_memory}
 use Rattle.vs_statements.proofs.Places.{answer_exit, refused_var, refused_seq, refused_then, refused_missing, refused_level, refused_former, refused_latter, read_tok, read_var, read_seq, read_level, read_former, read_latter, parsed, one_true, one_false, first_took, answer_more}
 use Rattle.vs_statements.proofs.Pairs.{ok_at, err_at}
 use Rattle.vs_statements.proofs.Firsts.{too_deep_first}
-use Rattle.vs_statements.proofs.Lists.{shorter, listed_start, listed_more, listed_done, pushed_first}
 use Rattle.vs_statements.proofs.Arms.{targets_made}
 use Rattle.vs_statements.proofs.statements.+targets.Goals as goal
 

@@ -1,4 +1,3 @@
-use Rattle.std.proofs.Common.{refl}
 use Rattle.vs_grammar.specs.Trees.{Setting}
 use Rattle.vs_statements.proofs.Places.{answer_exit, refused_var, refused_seq, refused_then, refused_missing, read_tok, read_var, read_seq, parsed, ap3}
 use Rattle.vs_statements.proofs.Pairs.{ok_at, err_at}

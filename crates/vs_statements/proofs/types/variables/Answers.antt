@@ -1,5 +1,4 @@
 use Rattle.std.proofs.Common.{refl}
-use Rattle.vs_grammar.specs.Trees as tree
 use Rattle.vs_statements.proofs.Places.{answer_exit, refused_var, refused_seq, refused_then, refused_missing, read_tok, read_var, read_seq, parsed, ap3}
 use Rattle.vs_statements.proofs.Lists.{first_is}
 use Rattle.vs_statements.proofs.Pairs.{ok_at, err_at}

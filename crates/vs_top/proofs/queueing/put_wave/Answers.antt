@@ -6,7 +6,7 @@ use Rattle.vs_top.proofs.queueing.put_wave.Goals as goal
 
 pub returns-in-Ok-clause-put : goal.returns-in-Ok-clause-put
 returns-in-Ok-clause-put g c =
-    all_put (g.D.Desk.told c.args.desk.now) (g.D.Desk.told c.put_all-put.new.desk) (g.D.Desk.told c.flush.new.desk) (wave_place 0) c.args.text.now c.put_all-put.result c.put_all-put.ensures.puts c.in-Ok.ensures.flushed
+    all_put (g.D.Desk.told c.args.desk.now) (g.D.Desk.told c.put_all-put.new.desk) (g.D.Desk.told c.flush.new.desk) c.args.text.now c.put_all-put.result c.put_all-put.ensures.puts c.in-Ok.ensures.flushed c.in-Ok.ensures.out
 
 pub returns-in-Ok-clause-failed : goal.returns-in-Ok-clause-failed
 returns-in-Ok-clause-failed g c =

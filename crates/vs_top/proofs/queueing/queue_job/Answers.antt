@@ -29,7 +29,7 @@ returns-in-Ok-write_wave g c =
     let traced = c.in-Ok.traced in
     record {
       ended = written_end job c.args.order (g.D.Desk.told c.args.desk.now) (g.D.Desk.told c.trace_job.new.desk) (g.D.Desk.told c.write_wave.new.desk) traced.text.items traced.course (map (string_bytes {Z = Global}) traced.paths.items)
-          c.requires.mode c.in-Ok.ensures.different c.in-Ok.ensures.order c.in-Ok.ensures.traced c.in-Ok.ensures.paths
+          (c.requires.job.lone c.args.order c.requires.mode) c.requires.mode c.in-Ok.ensures.different c.in-Ok.ensures.order c.in-Ok.ensures.traced c.in-Ok.ensures.paths
           (subst (λ (text : List ℕ). IsWaveWritten (map (string_bytes {Z = Global}) traced.paths.items) text (g.D.Desk.told c.trace_job.new.desk) (g.D.Desk.told c.write_wave.new.desk)) c.as_slice.ensures.value c.in-Ok-write_wave.ensures.written);
     }
 

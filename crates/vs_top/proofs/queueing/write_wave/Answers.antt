@@ -1,9 +1,8 @@
 use Rattle.std.proofs.Common.{List, String, Global, map, ◌∙◌, arith}
 use Rattle.std.specs.Prelude.{string_bytes}
 use Rattle.std.proofs.lemmas.List.{length-map}
-use Rattle.vs_desk.specs.Desk.{Puts}
 use Rattle.vs_waves.specs.Puts.{wave_place}
-use Rattle.vs_top.specs.Traced.{IsWaveWritten, IsWaveUnwritten, WriteFails}
+use Rattle.vs_top.specs.Traced.{PutsWave, IsWaveWritten, IsWaveUnwritten, WriteFails}
 use Rattle.vs_top.specs.Traced.IsWaveUnwritten.{at_place}
 use Rattle.vs_top.proofs.Flushing.{attached_writable}
 use Rattle.vs_top.proofs.Writing.{on_ok, on_err, wave_attached, unattached_wave}
@@ -36,7 +35,7 @@ returns-in-Ok-clause-written g c =
     let one = c.requires.one in
     let middle = g.D.Desk.told c.attach.new.desk in
     let new = g.D.Desk.told c.put_wave.new.desk in
-    on_ok c.put_wave.result (Puts middle new (wave_place 0) c.args.text.now) (IsWaveWritten paths c.args.text.now (g.D.Desk.told c.args.desk.now) new)
+    on_ok c.put_wave.result (PutsWave middle new c.args.text.now) (IsWaveWritten paths c.args.text.now (g.D.Desk.told c.args.desk.now) new)
     (λ p. record { middle = middle; attached = wave_attached paths (g.D.Desk.told c.args.desk.now) middle _ (omega (arith, held, one)) c.in-Ok.ensures.attached c.in-Ok.ensures.bytes; put = p })
     c.put_wave.ensures.put
 

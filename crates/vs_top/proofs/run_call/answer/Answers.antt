@@ -1,6 +1,7 @@
 use Rattle.std.proofs.Common.{sym, subst, ◌∙◌}
 use Rattle.vs_job.specs.declared.job.Job.{Job}
 use Rattle.vs_top.specs.Ordered.{IsOrdered}
+use Rattle.vs_top.specs.Reports.{IsOut}
 use Rattle.vs_top.specs.Refused.{IsRefusedJob}
 use Rattle.vs_top.proofs.Refusals.{some_none, some_same}
 use Rattle.vs_top.proofs.run_call.answer.Goals as goal
@@ -25,3 +26,12 @@ pub returns-in-Ok-clause-ordered : goal.returns-in-Ok-clause-ordered
 returns-in-Ok-clause-ordered g c = λ told j called course is.
     let same = some_same _ j c.in-Ok.job called c.in-Ok.ensures.ok in
     subst (λ (k : Job). IsOrdered k (g.D.Desk.told c.args.desk.now).contents (g.D.Desk.told c.answer_job.new.desk).contents course) (sym same) (c.answer_job.ensures.ordered told course is)
+
+pub returns-in-Ok-clause-out : goal.returns-in-Ok-clause-out
+returns-in-Ok-clause-out g c = λ j called.
+    let same = some_same _ j c.in-Ok.job called c.in-Ok.ensures.ok in
+    subst (λ (k : Job). IsOut k (g.D.Desk.told c.answer_job.new.desk) c.answer_job.result.outcome) (sym same) c.answer_job.ensures.out
+
+pub returns-in-Some-clause-out : goal.returns-in-Some-clause-out
+returns-in-Some-clause-out g c = λ j called.
+    absurd (some_none _ _ (sym c.read_bench.ensures.answer ∙ c.in-Some.is) (c.apart_law.ensures _ j called))

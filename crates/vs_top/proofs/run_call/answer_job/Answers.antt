@@ -4,6 +4,7 @@ use Rattle.vs_top.proofs.Ends.{simulated_usage}
 use Rattle.vs_top.proofs.Lawful.{simulated_complete, simulated_refused}
 use Rattle.vs_top.proofs.Simulated.{simulated_written, simulated_checked}
 use Rattle.vs_top.proofs.Others.{simulated_others}
+use Rattle.vs_top.proofs.Leaving.{simulated_out}
 use Rattle.vs_top.proofs.Queued.{run_queue, check_queue, simulated_ordered, simulated_order, simulated_undone}
 use Rattle.vs_top.proofs.run_call.answer_job.Goals as goal
 
@@ -92,3 +93,12 @@ returns-in-Queue-clause-order g c = λ course is. (simulated_order g.D.Desk.told
 
 pub returns-in-Queue-clause-operations : goal.returns-in-Queue-clause-operations
 returns-in-Queue-clause-operations g c = λ s is. absurd (simulated_undone g.D.Desk.told c.args.job.now c.in-Queue.order c.args.desk.now c.answer_queue.new.desk c.answer_queue.result.outcome c.in-Queue.is c.answer_queue.ensures.answered.simulated s is)
+
+pub returns-in-Run-clause-out : goal.returns-in-Run-clause-out
+returns-in-Run-clause-out g c = simulated_out g.D.Desk.told c.args.job.now c.args.desk.now c.answer_run.new.desk c.answer_run.result.outcome c.answer_run.ensures.answered.simulated
+
+pub returns-in-Check-clause-out : goal.returns-in-Check-clause-out
+returns-in-Check-clause-out g c = simulated_out g.D.Desk.told c.args.job.now c.args.desk.now c.check_job.new.desk c.check_job.result.outcome c.check_job.ensures.answered.simulated
+
+pub returns-in-Queue-clause-out : goal.returns-in-Queue-clause-out
+returns-in-Queue-clause-out g c = simulated_out g.D.Desk.told c.args.job.now c.args.desk.now c.answer_queue.new.desk c.answer_queue.result.outcome c.answer_queue.ensures.answered.simulated

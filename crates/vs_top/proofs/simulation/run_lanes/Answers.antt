@@ -152,7 +152,7 @@ returns-in-Ok-rounds-clause-done g c =
           ∙ ap (λ (r : Register). with_places r (waveform_place 0) Write (wave_paths job)) (c.in_default-begin.ensures.same ∙ p.register_is);
       written = λ t. record {
         design = p.design;
-        accepted = accepted_as job.top job.clocks p.design (job.head ++ p.file) (design_text job old) (ap (λ (file : List ℕ). job.head ++ file) (p.file_is t)) p.accepted;
+        accepted = accepted_as job.top job.clocks job.half p.design (job.head ++ p.file) (design_text job old) (ap (λ (file : List ℕ). job.head ++ file) (p.file_is t)) p.accepted;
         stimuli_taken = λ i h. (done t).taken i h;
         design_taken = (c.rounds.ensures.others t).left 1 (omega arith) ∙ ap (λ (left : ℕ → List ℕ). left 1) (empty t).left ∙ (c.begin.ensures.others t).before 1 (omega arith) ∙ (p.taken t).design;
         lanes = λ i h. lane_written c.headline_law.ensures.every c.headline_law.ensures.some c.known_law.ensures.some job.share p.design job.clocks p.accepted.accepted job.half run.ports (run_free job.mode p.accepted c.requires.mode) (are_data_inputs p.design clocks p.all_ports.inputs)

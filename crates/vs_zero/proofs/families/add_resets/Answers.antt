@@ -26,7 +26,7 @@ add_values-requires-clause-there c =
     let p = c.loop-p.p - 1 in
     let here : p < length (design_of a).processes = omega (arith, c.loop-p-test.true, c.loop-p.invariant.within, (c.trees_law.ensures.counts a).processes) in
     let r = reset_there c.fits_law.ensures.fits c.footprint_law.ensures.bits a c.flat.ensures.lawful c.flat.ensures.fits c.requires.blocks c.args.clocks.now.bits c.args.clocks.now.resets c.requires.resets.resets p here c.in-Some.reset c.in-Some.ensures c.writes-bits.result.now (c.writes-bits.ensures ∙ ap (λ fs. writes_at fs p) c.requires.footprints) in
-    subst (λ (b : Arena). c.in-Some.reset.branch < length b.statements) (sym c.shapes.ensures) r.there
+    subst (λ (b : Arena). c.in-Some.reset.branch < length b.statements) (sym c.shapes-shapes.ensures) r.there
 
 pub add_values-requires-clause-fixed : goal.add_values-requires-clause-fixed
 add_values-requires-clause-fixed c =
@@ -34,7 +34,7 @@ add_values-requires-clause-fixed c =
     let p = c.loop-p.p - 1 in
     let here : p < length (design_of a).processes = omega (arith, c.loop-p-test.true, c.loop-p.invariant.within, (c.trees_law.ensures.counts a).processes) in
     let r = reset_there c.fits_law.ensures.fits c.footprint_law.ensures.bits a c.flat.ensures.lawful c.flat.ensures.fits c.requires.blocks c.args.clocks.now.bits c.args.clocks.now.resets c.requires.resets.resets p here c.in-Some.reset c.in-Some.ensures c.writes-bits.result.now (c.writes-bits.ensures ∙ ap (λ fs. writes_at fs p) c.requires.footprints) in
-    subst (λ (b : Arena). IsFixed (statement_of b c.in-Some.reset.branch)) (sym c.shapes.ensures) r.fixed
+    subst (λ (b : Arena). IsFixed (statement_of b c.in-Some.reset.branch)) (sym c.shapes-shapes.ensures) r.fixed
 
 pub add_values-requires-clause-bits : goal.add_values-requires-clause-bits
 add_values-requires-clause-bits c =
@@ -42,10 +42,10 @@ add_values-requires-clause-bits c =
     let p = c.loop-p.p - 1 in
     let here : p < length (design_of a).processes = omega (arith, c.loop-p-test.true, c.loop-p.invariant.within, (c.trees_law.ensures.counts a).processes) in
     let r = reset_there c.fits_law.ensures.fits c.footprint_law.ensures.bits a c.flat.ensures.lawful c.flat.ensures.fits c.requires.blocks c.args.clocks.now.bits c.args.clocks.now.resets c.requires.resets.resets p here c.in-Some.reset c.in-Some.ensures c.writes-bits.result.now (c.writes-bits.ensures ∙ ap (λ fs. writes_at fs p) c.requires.footprints) in
-    subst (λ (b : Arena). Covers c.writes-bits.result.now (statement_of b c.in-Some.reset.branch)) (sym c.shapes.ensures) r.covers
+    subst (λ (b : Arena). Covers c.writes-bits.result.now (statement_of b c.in-Some.reset.branch)) (sym c.shapes-shapes.ensures) r.covers
 
-pub loop-p-preserved-in-Some : goal.loop-p-preserved-in-Some
-loop-p-preserved-in-Some c =
+pub loop-p-preserved-in-Continue-1 : goal.loop-p-preserved-in-Continue-1
+loop-p-preserved-in-Continue-1 c =
     let a = c.args.typed.now in
     let p = c.loop-p.p - 1 in
     let here : p < length (design_of a).processes = omega (arith, c.loop-p-test.true, c.loop-p.invariant.within, (c.trees_law.ensures.counts a).processes) in
@@ -55,11 +55,11 @@ loop-p-preserved-in-Some c =
     let clocks = c.args.clocks.now.bits in
     let last : c.loop-p.p ≡ p + 1 = omega (arith, c.loop-p-test.true) in
     let before = subst (λ n. g ≡ (λ b. with_resets (design_of a) clocks (drop n (design_of a).processes) b (f b))) last c.loop-p.invariant.sets in
-    let after = subst (λ (b : Arena). family_of c.add_values.new.table ≡ (λ n. with_updates (flatten (branch_effects (statement_of b c.in-Some.reset.branch))) n (g n))) c.shapes.ensures c.add_values.ensures.table in
+    let after = subst (λ (b : Arena). family_of c.add_values.new.table ≡ (λ n. with_updates (flatten (branch_effects (statement_of b c.in-Some.reset.branch))) n (g n))) c.shapes-shapes.ensures c.in_ok-add_values-in-Some.ensures.table in
     record {
       within = omega (arith, c.loop-p.invariant.within);
-      x = c.add_values.ensures.x;
-      zeros = c.add_values.ensures.zero;
+      x = c.in_ok-add_values-in-Some.ensures.x;
+      zeros = c.in_ok-add_values-in-Some.ensures.zero;
       sets = reset_step a clocks p r.process c.in-Some.reset f g (family_of c.add_values.new.table) r.is here r.reset before after;
     }
 

@@ -25,7 +25,7 @@ returns-clause-sets c =
     let whole = seam len items (drop (length items) (take len (after ++ drop (length after) start))) (sym many) in
     let count : length items ≡ bit_count d = omega (arith, many, ap length c.as_mut_slice-3.ensures.value, c.as_mut_slice-3.ensures.len, c.in_ok-table.ensures.count) in
     let early = ap family_of c.as_mut_slice-3.ensures.value ∙ c.in_ok-table.ensures.sets in
-    let resets = c.add_resets.ensures ∙ ap (λ (g : Family). let h : Family = λ b. with_resets d clocks d.processes b (g b) in h) early in
+    let resets = c.in_ok-add_resets.ensures ∙ ap (λ (g : Family). let h : Family = λ b. with_resets d clocks d.processes b (g b) in h) early in
     let inputs = c.fill_kind.ensures
     ∙ ap₂ (λ (b : Arena) (s : Set4). replaced (bits_of_kind Input (design_of b)) (λ n. s) (family_of c.as_mut_slice-4.result.now)) c.shapes-shapes.ensures c.known.ensures
     ∙ ap (λ (t : List Set4). replaced (bits_of_kind Input d) (λ n. known_set) (family_of t)) (c.as_mut_slice-4.ensures.value ∙ first)

@@ -11,4 +11,4 @@ returns-clause-values c =
     let d = design_of c.args.typed.now in
     let after : List Bit4 = c.run_initials.new.values in
     let through = whole c.in_ok-values.values.len after (drop (length after) c.in_ok-values.values.items) (sym (c.run_initials.auto.values ∙ c.as_mut_slice.ensures.len)) in
-    ap state_of through ∙ c.run_initials.ensures ∙ ap (started true d.initials) (ap state_of c.as_mut_slice.ensures.value ∙ c.in_ok-values.ensures.values)
+    ap state_of through ∙ c.in_ok-run_initials.ensures ∙ ap (started true d.initials) (ap state_of c.as_mut_slice.ensures.value ∙ c.in_ok-values.ensures.values)

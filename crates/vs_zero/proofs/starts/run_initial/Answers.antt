@@ -42,5 +42,5 @@ returns c i h =
     let a = c.args.typed.now in
     let r = c.fit_initial.result in
     let at : slice_get a.initials c.args.k ≡ Some r = subst (λ (x : Arena). slice_get x.initials c.args.k ≡ Some r) c.shapes-shapes.ensures c.fit_initial.ensures.is in
-    c.run_part.ensures ∙ ap (λ (x : Arena). given c.args.at_once (statement_of x r.statement) (state_of c.args.values.now)) c.shapes-shapes.ensures
+    c.in_ok-run_part.ensures ∙ ap (λ (x : Arena). given c.args.at_once (statement_of x r.statement) (state_of c.args.values.now)) c.shapes-shapes.ensures
     ∙ ap (λ (x : Initial). given c.args.at_once x.statement (state_of c.args.values.now)) (initial_is c.trees_law.ensures.initials a c.args.k r i at h)

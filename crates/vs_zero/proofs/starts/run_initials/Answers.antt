@@ -17,7 +17,7 @@ loop-k-preserved c =
     let counts = c.trees_law.ensures.counts a in
     let same = ap (λ (y : Arena). length y.initials) c.flat.ensures.same in
     let x = one_there d.initials c.loop-k.k (omega (arith, c.loop-k-test.true, c.initial_count-k-end.ensures.count, counts.initials, same)) in
-    one_started c.args.at_once d (state_of c.args.values.now) c.loop-k.k x.0 (state_of c.loop-k.values) _ x.1 (c.run_initial.ensures x.0 x.1) c.loop-k.invariant
+    one_started c.args.at_once d (state_of c.args.values.now) c.loop-k.k x.0 (state_of c.loop-k.values) _ x.1 (c.in_ok-run_initial.ensures x.0 x.1) c.loop-k.invariant
 
 pub returns : goal.returns
 returns c =

@@ -20,7 +20,7 @@ returns-clause-written c =
     let bits = c.args.bits.now in
     c.in_ok-add_same.ensures
     ∙ ap (λ (bs : List ℕ). c.args.to.now.items ++ bs)
-    (ap₂ (λ (x z : State). filter (λ b. are_same (x b) (z b)) bits) c.run.ensures c.run-2.ensures
+    (ap₂ (λ (x z : State). filter (λ b. are_same (x b) (z b)) bits) c.in_ok-run.ensures c.in_ok-run-2.ensures
     ∙ same_are_written bits ws (length c.args.from_x.now) (state_of c.args.from_x.now) (state_of c.args.from_zero.now) c.requires.within (λ b l. c.requires.zero b (omega (arith, l, c.requires.count))) c.requires.x)
 
 pub returns-clause-x : goal.returns-clause-x
@@ -28,7 +28,7 @@ returns-clause-x c =
     let st = statement_of c.args.shapes.now c.args.branch in
     let ws = flatten (branch_effects st) in
     let bits = c.args.bits.now in
-    c.reset_bits.ensures ∙ ap (λ (s : State). replaced_by bits (λ b. X) s) c.run.ensures ∙ unknown_again bits ws (state_of c.args.from_x.now) (covered c.write_law.ensures.body st bits c.requires.fixed.fits c.requires.bits) c.requires.x
+    c.reset_bits.ensures ∙ ap (λ (s : State). replaced_by bits (λ b. X) s) c.in_ok-run.ensures ∙ unknown_again bits ws (state_of c.args.from_x.now) (covered c.write_law.ensures.body st bits c.requires.fixed.fits c.requires.bits) c.requires.x
 
 pub returns-clause-zero : goal.returns-clause-zero
 returns-clause-zero c =
@@ -36,7 +36,7 @@ returns-clause-zero c =
     let ws = flatten (branch_effects st) in
     let bits = c.args.bits.now in
     zero_again bits ws c.args.from_zero.now c.reset_bits-2.new.state (covered c.write_law.ensures.body st bits c.requires.fixed.fits c.requires.bits) c.requires.zero
-    (omega (arith, c.reset_bits-2.auto.state, c.run-2.auto.state)) (c.reset_bits-2.ensures ∙ ap (λ (s : State). replaced_by bits (λ b. Zero) s) c.run-2.ensures)
+    (omega (arith, c.reset_bits-2.auto.state, c.run-2.auto.state)) (c.reset_bits-2.ensures ∙ ap (λ (s : State). replaced_by bits (λ b. Zero) s) c.in_ok-run-2.ensures)
 
 pub run-requires-clause-within : goal.run-requires-clause-within
 run-requires-clause-within c = covered_below (length c.args.from_x.now) c.args.bits.now (statement_of c.args.shapes.now c.args.branch) (c.requires.within) c.requires.bits

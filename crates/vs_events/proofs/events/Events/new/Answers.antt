@@ -1,6 +1,8 @@
 use Rattle.std.proofs.Common.{◌≡◌, [], false, length, sym, ap, ◌∙◌}
+use Rattle.std.specs.List.{list_all}
 use Rattle.std.proofs.lemmas.List.{length-map, length-replicate}
 use Rattle.vs_events.specs.Beginning.{is_assign, is_block}
+use Rattle.vs_events.specs.Held.{is_theirs}
 use Rattle.vs_events.proofs.events.Events.new.Goals as goal
 
 pub invariant_of-result : goal.invariant_of-result
@@ -18,4 +20,5 @@ invariant_of-result c =
       active = ap length c.in_ok-no_updates.ensures ∙ length-replicate (length roles) [] ∙ sym assigns;
       waiting = ap length c.in_ok-no_updates-2.ensures ∙ length-replicate (length roles) [] ∙ sym assigns;
       lates = ap length c.in_ok-new-4.ensures ∙ none;
+      laters = ap (list_all (is_theirs (length c.in_ok-assigns.assigns.items))) c.new-5.ensures.items;
     }

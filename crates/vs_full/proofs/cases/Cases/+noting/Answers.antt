@@ -187,7 +187,7 @@ pub note_in-returns-in-Assign : goal.note_in-returns-in-Assign
 note_in-returns-in-Assign t c = record {
   sound = c.requires.sound;
   kept = same_kept c.args.shapes.now c.args.self.now;
-  noted = assign_noted c.args.shapes.now c.args.self.now c.args.s _ _ _ c.statement_node.result.now c.statement_node.ensures.is c.in-Assign.is;
+  noted = assign_noted c.args.shapes.now c.args.self.now c.args.s _ _ _ _ c.statement_node.result.now c.statement_node.ensures.is c.in-Assign.is;
 }
 
 pub note_in-returns-in_ok-note_branch-in-If : goal.note_in-returns-in_ok-note_branch-in-If

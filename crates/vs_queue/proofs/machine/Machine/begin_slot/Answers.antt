@@ -2,7 +2,6 @@ use Rattle.std.proofs.Common.{suc, ◌∷◌, ◌++◌, [], List, ap, ◌∙◌}
 use Rattle.vs_four.specs.declared.Bit4.{Bit4}
 use Rattle.vs_design.specs.Networks.{network_of}
 use Rattle.vs_flat.specs.DesignOf.{design_of}
-use Rattle.vs_events.specs.Held.{queue_of}
 use Rattle.vs_queue.specs.Chosen.{next_seed}
 use Rattle.vs_queue.specs.Reached.{counted}
 use Rattle.vs_queue.proofs.Ending.{counted_on, reached_as}
@@ -20,7 +19,7 @@ returns-clause-reached c = λ from order slot slots is r.
     let d = design_of c.args.self.now.typed.now in
     let k = c.args.self.now.clocks.now in
     let run = c.args.run.now in
-    reached_as (network_of d k.bits) from order (queue_of c.drive.new.events slots) (next_seed run.seed) c.next_seed-run.result (run.ends ++ run.events.values ∷ []) c.push.new.self (counted (suc run.steps)) c.saturating_add-run.result c.next_seed-run.ensures
+    reached_as (network_of d k.bits) from order c.drive.new.events slots (next_seed run.seed) c.next_seed-run.result (run.ends ++ run.events.values ∷ []) c.push.new.self (counted (suc run.steps)) c.saturating_add-run.result c.next_seed-run.ensures
     (c.in_ok-push.ensures ∙ ap (λ (vs : List Bit4). run.ends ++ vs ∷ []) c.values.ensures) (counted_on c.saturating_add-run.result run.steps c.saturating_add-run.ensures)
     (next_reached d k c.requires.machine.accepted c.slot_law.ensures.next run.events c.drive.new.events run.shadow.items slot c.requires.copied c.requires.ended (c.in_ok-drive.ensures slot is) from order slots run.seed run.ends run.steps r)
 

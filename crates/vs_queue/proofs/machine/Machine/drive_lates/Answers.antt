@@ -1,7 +1,7 @@
 use Rattle.std.proofs.Common.{◌<◌, List, Bool, length, refl, sym, ap, ◌∙◌, subst, arith}
 use Rattle.std.specs.List.{flat_map}
 use Rattle.std.proofs.lemmas.List.{drop_all}
-use Rattle.vs_net.specs.Network.{Update, is_written, flatten}
+use Rattle.vs_net.specs.Network.{Update, undelayed, is_written, flatten}
 use Rattle.vs_design.specs.Designs.{Initial}
 use Rattle.vs_design.specs.Initials.{initial_updates}
 use Rattle.vs_flat.specs.Arena.{Arena}
@@ -35,9 +35,9 @@ drive_updates-requires-clause-inside c =
     let n = ap (λ (z : Arena). length z.initials) c.flat-flat.ensures.same in
     let k = (c.trees_law.ensures.counts c.args.self.now.typed.now).initials in
     let i = process_at d.initials c.loop-k.k (omega (arith, l, m, n, k)) in
-    let updates = c.updates.ensures ∙ (c.in_ok-done.ensures i.0 i.1).1 in
+    let updates = ap undelayed c.updates.ensures ∙ (c.in_ok-done.ensures i.0 i.1).1 in
     let o = c.requires.owners in
-    each_update (λ b. b < length c.args.owners.now) c.updates.result.now (λ b h.
+    each_update (λ b. b < length c.args.owners.now) (undelayed c.updates.result.now) (λ b h.
     let listed = late_listed d c.requires.machine.accepted.accepted.lawful.initials c.loop-k.k i.0 i.1 b (ap (λ (us : List Update). is_written (flatten us) b) (sym updates) ∙ h) in
     let inside = o.inside b listed in
     let count = o.count in
@@ -51,9 +51,9 @@ drive_updates-requires-clause-there c =
     let n = ap (λ (z : Arena). length z.initials) c.flat-flat.ensures.same in
     let k = (c.trees_law.ensures.counts c.args.self.now.typed.now).initials in
     let i = process_at d.initials c.loop-k.k (omega (arith, l, m, n, k)) in
-    let updates = c.updates.ensures ∙ (c.in_ok-done.ensures i.0 i.1).1 in
+    let updates = ap undelayed c.updates.ensures ∙ (c.in_ok-done.ensures i.0 i.1).1 in
     let o = c.requires.owners in
-    each_update (λ b. owner c.args.owners.now b < length c.loop-k.events.assigns) c.updates.result.now (λ b h.
+    each_update (λ b. owner c.args.owners.now b < length c.loop-k.events.assigns) (undelayed c.updates.result.now) (λ b h.
     let listed = late_listed d c.requires.machine.accepted.accepted.lawful.initials c.loop-k.k i.0 i.1 b (ap (λ (us : List Update). is_written (flatten us) b) (sym updates) ∙ h) in
     let below = o.below b listed in
     let long = ap (λ (fs : List Bool). length fs) c.loop-k.invariant.0 ∙ c.requires.held in
@@ -67,9 +67,9 @@ loop-k-preserved c =
     let n = ap (λ (z : Arena). length z.initials) c.flat-flat.ensures.same in
     let k = (c.trees_law.ensures.counts c.args.self.now.typed.now).initials in
     let i = process_at d.initials c.loop-k.k (omega (arith, l, m, n, k)) in
-    let updates = c.updates.ensures ∙ (c.in_ok-done.ensures i.0 i.1).1 in
+    let updates = ap undelayed c.updates.ensures ∙ (c.in_ok-done.ensures i.0 i.1).1 in
     let owners = c.args.owners.now in (
-      ap (λ (e : Events). e.assigns) c.in_ok-drive_updates.ensures ∙ assigns_stay (parts_of owners c.updates.result.now) c.loop-k.events ∙ c.loop-k.invariant.0,
+      ap (λ (e : Events). e.assigns) c.in_ok-drive_updates.ensures ∙ assigns_stay (parts_of owners (undelayed c.updates.result.now)) c.loop-k.events ∙ c.loop-k.invariant.0,
       lates_next owners d.initials c.loop-k.k i.0 c.loop-k.events c.drive_updates.new.events _ i.1 (c.in_ok-drive_updates.ensures ∙ ap (λ (us : List Update). after_drives c.loop-k.events (parts_of owners us)) updates) c.loop-k.invariant.1,
     )
 

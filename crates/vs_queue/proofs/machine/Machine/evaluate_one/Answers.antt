@@ -1,4 +1,4 @@
-use Rattle.std.proofs.Common.{true, false, [], ◌∷◌, sym, ◌∙◌}
+use Rattle.std.proofs.Common.{[], ◌∷◌, sym, ◌∙◌}
 use Rattle.vs_net.specs.Queue.{Evaluate, Apply}
 use Rattle.vs_design.specs.Networks.{network_of}
 use Rattle.vs_flat.specs.DesignOf.{design_of}
@@ -27,7 +27,7 @@ returns-then-is_open c =
     on_ok c.take_step-then-is_open.result c.take_step-then-is_open.ensures (λ t.
     taken_as d k (λ q. Evaluate p ∷ Apply p ∷ []) (λ q. settle_turn n q p) e c.take_step-then-is_open.new.events c.take_step-then-is_open.new.shadow
     (taken_then d k (λ q. Evaluate p ∷ []) (λ q. Apply p ∷ []) e m c.take_step-then-is_open.new.events c.take_step.new.shadow c.take_step-then-is_open.new.shadow first t)
-    (λ slots. written_is n e c.requires.copied.running.sound p slots c.requires.possible (applied_is n e c.requires.copied.running.sound p m (first.swept []) on)))
+    (λ time slots. written_is n e c.requires.copied.running.sound p time slots c.requires.possible (applied_is n e c.requires.copied.running.sound p m (first.swept 0 []) on)))
 
 pub returns : goal.returns
 returns c =
@@ -40,4 +40,4 @@ returns c =
     let first = c.in_ok-take_step.ensures in
     let off = sym c.is_open.ensures ∙ c.if-is_open.false in
     taken_as d k (λ q. Evaluate p ∷ []) (λ q. settle_turn n q p) e m c.take_step.new.shadow first
-    (λ slots. held_is n e c.requires.copied.running.sound p slots c.requires.possible (unapplied_is n e c.requires.copied.running.sound p m (first.swept []) off))
+    (λ time slots. held_is n e c.requires.copied.running.sound p time slots c.requires.possible (unapplied_is n e c.requires.copied.running.sound p m (first.swept 0 []) off))

@@ -14,7 +14,7 @@ loop-k-init c =
     let d = design_of c.args.self.now.typed.now in
     let k = c.args.self.now.clocks.now.bits in
     let n = network_of d k in
-    taken_none d k (λ q. each_in (settle_turn n) n q (take 0 c.args.order.now)) c.args.events.now c.args.shadow.now c.requires.copied (λ slots. ap (λ (ps : List ℕ). each_in (settle_turn n) n (queue_of c.args.events.now slots) ps) (take_zero c.args.order.now))
+    taken_none d k (λ q. each_in (settle_turn n) n q (take 0 c.args.order.now)) c.args.events.now c.args.shadow.now c.requires.copied (λ time slots. ap (λ (ps : List ℕ). each_in (settle_turn n) n (queue_of c.args.events.now time slots) ps) (take_zero c.args.order.now))
 
 pub settle_one-requires-clause-copied : goal.settle_one-requires-clause-copied
 settle_one-requires-clause-copied c = c.loop-k.invariant.copied

@@ -11,7 +11,7 @@ loop-p-init c =
     let d = design_of c.args.self.now.typed.now in
     let k = c.args.self.now.clocks.now.bits in
     let n = network_of d k in
-    taken_none d k (λ q. each_in (run_turn n) n q (below 0)) c.args.events.now c.args.shadow.now c.requires.copied (λ slots. refl)
+    taken_none d k (λ q. each_in (run_turn n) n q (below 0)) c.args.events.now c.args.shadow.now c.requires.copied (λ time slots. refl)
 
 pub run_one-requires-clause-copied : goal.run_one-requires-clause-copied
 run_one-requires-clause-copied c = c.loop-p.invariant.copied

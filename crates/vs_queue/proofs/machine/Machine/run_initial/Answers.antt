@@ -1,5 +1,6 @@
 use Rattle.std.proofs.Common.{◌≡◌, ◌≤◌, true, length, sym, ap, ◌∙◌, subst, arith}
 use Rattle.std.specs.List.{list_all}
+use Rattle.vs_net.specs.Network.{undelayed}
 use Rattle.vs_design.specs.Designs.{bit_count}
 use Rattle.vs_design.specs.Fits.{fits_initial}
 use Rattle.vs_flat.specs.Arena.{Arena}
@@ -28,5 +29,5 @@ returns c =
     let b = c.requires.machine.accepted in
     if_ok c.run_initial.result c.run_initial.ensures.effect (λ f h i at.
     let done = h i (subst (λ (z : Arena). slice_get (design_of z).initials c.args.k ≡ Some i) (sym c.shapes.ensures) at) in
-    let body = initial_body d b.names b.accepted c.args.k i at (state_of c.args.values.now) in
-    (done.0 ∙ body.0, done.1 ∙ body.1))
+    let body = initial_body c.delay_law.ensures.order d b.names b.accepted c.args.k i at (state_of c.args.values.now) in
+    (done.0 ∙ body.0, ap undelayed done.1 ∙ body.1))

@@ -1,7 +1,7 @@
 use Rattle.std.proofs.Common.{◌≡◌, Bool, true, false, [], ◌∷◌, length, refl, sym, ◌∙◌}
 use Rattle.std.specs.Prelude.{nat_le}
 use Rattle.vs_net.specs.Network.{kind}
-use Rattle.vs_net.specs.Queue.{Slot, Run}
+use Rattle.vs_net.specs.Queue.{Run}
 use Rattle.vs_design.specs.Networks.{network_of}
 use Rattle.vs_flat.specs.DesignOf.{design_of}
 use Rattle.vs_queue.specs.Sweeps.{run_turn, is_clocked_kind}
@@ -21,7 +21,7 @@ returns-then-not-may_be_clocked c =
     let n = network_of d k in
     let e = c.args.events.now in
     let not = may_not (is_clocked_kind (kind (n.process c.args.p))) (nat_le (length d.processes) c.args.p) (sym c.may_be_clocked.ensures ∙ c.if-not-may_be_clocked.true) in
-    taken_none d k (λ q. run_turn n q c.args.p) e c.args.shadow.now c.requires.copied (λ slots. unclocked_not n e c.requires.copied.running.sound c.args.p slots not)
+    taken_none d k (λ q. run_turn n q c.args.p) e c.args.shadow.now c.requires.copied (λ time slots. unclocked_not n e c.requires.copied.running.sound c.args.p time slots not)
 
 pub take_step-requires-clause-possible : goal.take_step-requires-clause-possible
 take_step-requires-clause-possible c = sym c.is_open.ensures ∙ c.if-is_open.true
@@ -36,7 +36,7 @@ returns-then-is_open c =
     let is = due_is d k e c.requires.copied.running.sound c.args.p (sym c.may_be_clocked.ensures ∙ c.if-not-may_be_clocked.false) on in
     on_ok c.take_step.result c.take_step.ensures (λ t.
     taken_as d k (λ q. Run c.args.p ∷ []) (λ q. run_turn n q c.args.p) e c.take_step.new.events c.take_step.new.shadow t
-    (λ slots. clocked_is n e c.requires.copied.running.sound c.args.p slots is on))
+    (λ time slots. clocked_is n e c.requires.copied.running.sound c.args.p time slots is on))
 
 pub returns : goal.returns
 returns c =
@@ -46,4 +46,4 @@ returns c =
     let e = c.args.events.now in
     let off = sym c.is_open.ensures ∙ c.if-is_open.false in
     taken_none d k (λ q. run_turn n q c.args.p) e c.args.shadow.now c.requires.copied
-    (λ slots. by_test (is_clocked_kind (kind (n.process c.args.p))) (λ is. unrun_not n e c.requires.copied.running.sound c.args.p slots is off) (λ not. unclocked_not n e c.requires.copied.running.sound c.args.p slots not))
+    (λ time slots. by_test (is_clocked_kind (kind (n.process c.args.p))) (λ is. unrun_not n e c.requires.copied.running.sound c.args.p time slots is off) (λ not. unclocked_not n e c.requires.copied.running.sound c.args.p time slots not))

@@ -49,6 +49,6 @@ returns c =
       copied = subst (IsCopied d k.bits c.turn.new.events) (sym (seam c.turns.run.shadow.len c.turn.new.shadow _ (sym (c.turn.auto.shadow ∙ c.as_mut_slice.ensures.len))))
           (copied_on d k.bits c.turns.run.events c.turn.new.events c.turns.run.shadow.items c.turn.new.shadow i.copied c.in_ok-turn.ensures.running c.in_ok-turn.ensures.shadow (c.turn.auto.shadow ∙ ap length c.as_mut_slice.ensures.value));
       reached = over_reached (network_of d k.bits) c.args.run.now.events c.turns.run.events c.turn.new.events c.args.run.now.seed c.turns.run.seed c.args.run.now.ends c.turns.run.ends c.args.run.now.steps c.turns.run.steps i.reached (turn_is (network_of (design_of c.args.self.now.typed.now) c.args.self.now.clocks.now.bits) c.turns.run.events c.turn.new.events c.turns.run.seed c.in_ok-turn.field-0 false c.if-branch.false c.in_ok-turn.ensures.turn);
-      ended = over_ended d k.bits c.turns.run.events c.turn.new.events c.turns.run.seed (turn_is (network_of (design_of c.args.self.now.typed.now) c.args.self.now.clocks.now.bits) c.turns.run.events c.turn.new.events c.turns.run.seed c.in_ok-turn.field-0 false c.if-branch.false c.in_ok-turn.ensures.turn) (c.in_ok-turn.ensures.rested c.if-branch.false);
+      ended = over_ended d k.bits c.turns.run.events c.turn.new.events c.turns.run.seed (turn_is (network_of (design_of c.args.self.now.typed.now) c.args.self.now.clocks.now.bits) c.turns.run.events c.turn.new.events c.turns.run.seed c.in_ok-turn.field-0 false c.if-branch.false c.in_ok-turn.ensures.turn) (c.in_ok-turn.ensures.rested c.if-branch.false).0 (c.in_ok-turn.ensures.rested c.if-branch.false).1;
       ends = i.ends;
     }

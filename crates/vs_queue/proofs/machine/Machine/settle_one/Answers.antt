@@ -23,7 +23,7 @@ returns-then-is_open-2 c =
     let e = c.args.events.now in
     on_ok c.take_step.result c.take_step.ensures (λ t.
     taken_as d k (λ q. Run p ∷ []) (λ q. settle_turn n q p) e c.take_step.new.events c.take_step.new.shadow t
-    (λ slots. comb_is n e c.requires.copied.running.sound p slots c.requires.settles (sym c.is_open-2.ensures ∙ c.if-is_open-2.true)))
+    (λ time slots. comb_is n e c.requires.copied.running.sound p time slots c.requires.settles (sym c.is_open-2.ensures ∙ c.if-is_open-2.true)))
 
 pub returns : goal.returns
 returns c =
@@ -33,4 +33,4 @@ returns c =
     let p = c.args.p in
     let e = c.args.events.now in
     taken_none d k (λ q. settle_turn n q p) e c.args.shadow.now c.requires.copied
-    (λ slots. settle_not n e c.requires.copied.running.sound p slots (sym c.is_open.ensures ∙ c.if-is_open.false) (sym c.is_open-2.ensures ∙ c.if-is_open-2.false))
+    (λ time slots. settle_not n e c.requires.copied.running.sound p time slots (sym c.is_open.ensures ∙ c.if-is_open.false) (sym c.is_open-2.ensures ∙ c.if-is_open-2.false))

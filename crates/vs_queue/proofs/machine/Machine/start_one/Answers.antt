@@ -13,7 +13,7 @@ take_step-requires-clause-possible c = sym c.is_open.ensures ∙ c.if-is_open.tr
 pub returns-then-is_open : goal.returns-then-is_open
 returns-then-is_open c = on_ok c.take_step.result c.take_step.ensures (λ t.
     taken_as (design_of c.args.self.now.typed.now) c.args.self.now.clocks.now.bits (λ q. Start c.args.p ∷ []) (λ q. start_turn q c.args.p) c.args.events.now c.take_step.new.events c.take_step.new.shadow t
-    (λ slots. start_is c.args.events.now slots c.args.p (sym c.is_open.ensures ∙ c.if-is_open.true)))
+    (λ time slots. start_is c.args.events.now time slots c.args.p (sym c.is_open.ensures ∙ c.if-is_open.true)))
 
 pub returns : goal.returns
-returns c = taken_none (design_of c.args.self.now.typed.now) c.args.self.now.clocks.now.bits (λ q. start_turn q c.args.p) c.args.events.now c.args.shadow.now c.requires.copied (λ slots. start_not c.args.events.now slots c.args.p (sym c.is_open.ensures ∙ c.if-is_open.false))
+returns c = taken_none (design_of c.args.self.now.typed.now) c.args.self.now.clocks.now.bits (λ q. start_turn q c.args.p) c.args.events.now c.args.shadow.now c.requires.copied (λ time slots. start_not c.args.events.now time slots c.args.p (sym c.is_open.ensures ∙ c.if-is_open.false))

@@ -1,4 +1,4 @@
-use Rattle.std.proofs.Common.{List, [], length, get_or}
+use Rattle.std.proofs.Common.{ℕ, List, [], length, get_or}
 use Rattle.vs_net.specs.Queue.{Slot}
 use Rattle.vs_design.specs.Networks.{network_of}
 use Rattle.vs_events.specs.Held.{queue_of}
@@ -13,7 +13,7 @@ invariant-updates l =
     let clocks = l.self.clocks.now.bits in
     record {
       copied : IsCopied d clocks l.events l.shadow;
-      left : (slots : List Slot) → AreLeft (network_of d clocks) l.p (queue_of l.initial.events slots) (queue_of l.events slots);
+      left : (time : ℕ) (slots : List Slot) → AreLeft (network_of d clocks) l.p (queue_of l.initial.events time slots) (queue_of l.events time slots);
     }
 
 abbrev pub decreases-updates : goal.decreases-updates

@@ -82,8 +82,8 @@ returns-in_ok-push_in_target-in-Assign t c =
     let w = c.args.walk in
     two_added c.push_in_expression.result c.args.out.now.items c.push_in_target.new.out.items c.push_in_expression.new.out.items (walked_target w c.in-Assign.blocking (target_tree (tree_of a c.in-Assign.target))) (walked_expression w (tree_of a c.in-Assign.expr))
     (walked_statement w (body_of a c.args.s)) c.in_ok-push_in_target-in-Assign.ensures c.push_in_expression.ensures
-    (walked_is w a c.flat.result.now c.args.s c.statement_of.result.now c.flat.ensures.same c.statement_of.ensures.tree (S.Assign c.in-Assign.target c.in-Assign.expr c.in-Assign.blocking) c.in-Assign.is
-    ∙ walked_assignment w (body_place a c.args.s) (target_tree (tree_of a c.in-Assign.target)) (tree_of a c.in-Assign.expr) c.in-Assign.blocking)
+    (walked_is w a c.flat.result.now c.args.s c.statement_of.result.now c.flat.ensures.same c.statement_of.ensures.tree (S.Assign c.in-Assign.target c.in-Assign.expr c.in-Assign.blocking c.in-Assign.delay) c.in-Assign.is
+    ∙ walked_assignment w (body_place a c.args.s) (target_tree (tree_of a c.in-Assign.target)) (tree_of a c.in-Assign.expr) c.in-Assign.blocking c.in-Assign.delay)
 
 pub returns-in-None : goal.returns-in-None
 returns-in-None t c =
